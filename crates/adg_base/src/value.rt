@@ -1,0 +1,45 @@
+use crate::list::{Duplicate, List};
+use crate::memory::Memory;
+use crate::text::Text;
+use std::alloc::Global;
+
+/// The kind of a column.
+#[derive(Clone, Copy, Debug, PartialEq, Eq)]
+pub enum ColKind {
+    Int,
+    Text,
+}
+
+/// A list of kinds, one for each column.
+pub type KindList = List<ColKind>;
+
+/// A value of a column.
+#[derive(Debug, PartialEq, Drop)]
+pub enum Value {
+    /// No value.
+    Null,
+    Int(i64),
+    Text(Text),
+}
+
+/// A row: one value for each of its columns.
+pub type Row = List<Value>;
+
+/// A list of rows.
+pub type RowList = List<Row>;
+
+impl Duplicate for ColKind {
+    fn copy(&self, _alloc: Global) -> Result<ColKind, Memory> {
+        Ok(*self)
+    }
+}
+
+impl Duplicate for Value {
+    fn copy(&self, alloc: Global) -> Result<Value, Memory> {
+        match self {
+            Value::Null => Ok(Value::Null),
+            Value::Int(number) => Ok(Value::Int(*number)),
+            Value::Text(text) => Ok(Value::Text(text.copy(alloc)?)),
+        }
+    }
+}
