@@ -1,0 +1,6 @@
+//! What the standby means: the definitions of its feed, its log, its rows and its answers, in
+//! `specs/`, and the types that they speak of beside those of `adg_base`.
+#![tactic(auto)]
+
+pub mod delivery;
+pub mod fault;
