@@ -1,3 +1,10 @@
 pub mod Spelling
 pub mod Records
 pub mod Feed
+pub mod Log
+pub mod Database
+pub mod Sound
+pub mod Query
+pub mod Command
+pub mod Reply
+pub mod Transcript
