@@ -3,5 +3,9 @@
 #![tactic(auto)]
 
 mod calls;
+pub mod gate;
+pub mod memory_sink;
 pub mod memory_source;
 pub mod outside;
+pub mod standard;
+pub mod transfer;
