@@ -1,0 +1,2 @@
+pub mod CountLines
+pub mod CountTexts
