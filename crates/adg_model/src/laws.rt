@@ -1,0 +1,15 @@
+//! Laws of the definitions in `specs/`, each the promise of a function that does nothing: evidence
+//! that the definitions say what they mean.
+
+ghost use Rattle.adg_model.specs.Laws.{RowsStopAtScn, ScnsDoNotFall};
+
+/// Rows and definitions at an SCN do not depend on entries above it.
+pub fn rows_stop_at_scn()
+    ensures { RowsStopAtScn }
+{}
+
+/// In a legal transcript no session reads an SCN that is lower than one that it read before, or that
+/// is above the frontier.
+pub fn scns_do_not_fall()
+    ensures { ScnsDoNotFall }
+{}
