@@ -1,13 +1,16 @@
 -- Lemmas on the frontier and the merged log.
-use Rattle.std.proofs.Common.{◌≡◌, ℕ, ◌+◌, ◌<◌, ◌≤◌, Bool, true, false, cond, not, List, [], ◌∷◌, ◌++◌, map, length, filter, refl, sym, ap, ◌∙◌, subst, arith, append_assoc, append-nil}
-use Rattle.std.specs.List.{AllByRecursion}
-use Rattle.std.proofs.lemmas.Bool.{le-leb, lt-leb}
+use Rattle.std.proofs.Common.{◌≡◌, ℕ, ◌+◌, ◌<◌, ◌≤◌, Bool, true, false, cond, not, nat_le, List, [], ◌∷◌, ◌++◌, map, length, filter, refl, sym, ap, ap₂, ◌∙◌, subst, arith, append_assoc, append-nil, true≢false}
+use Rattle.std.specs.List.{AllByRecursion, AllZip}
+use Rattle.std.proofs.lemmas.Bool.{le-leb, lt-leb, leb-true, leb-false}
 use Rattle.std.proofs.lemmas.Bool.Decides.{nat_tests}
 use Rattle.adg_base.specs.declared.vector.Vector.{Vector}
 use Rattle.adg_base.specs.declared.vector.RedoRecord.{RedoRecord}
 use Rattle.adg_base.specs.declared.log.LogEntry.{LogEntry}
 use Rattle.adg_model.specs.Records.{Mark, Raw, first_mark, mark_of, mark_after, raw_of, AreRaws}
-use Rattle.adg_model.specs.Log.{thread_mark, is_open, scns_of, or_greatest, frontier, record_entries, thread_entries, comes_before, put_in, in_order, numbered, upto, merged_log}
+use Rattle.adg_model.specs.Laws.{Continues, LogGrows}
+use Rattle.std.proofs.lemmas.List.{map-append}
+use Rattle.std.proofs.lemmas.List.Elements.{filter-append}
+use Rattle.adg_model.specs.Log.{thread_mark, least, greatest, is_open, scns_of, or_greatest, frontier, record_entries, thread_entries, entries_from, comes_before, put_in, in_order, numbered, upto, merged_log}
 
 -- what holds of each element, over `++`
 pub each-append : {X : Type 0} (P : X → Type 0) (xs ys : List X) → AllByRecursion P xs → AllByRecursion P ys → AllByRecursion P (xs ++ ys)
@@ -42,6 +45,9 @@ upto_all scn (e ∷ es) h = rw (le-leb e.scn scn h.0) (ap (λ l. e ∷ l) (upto_
 pub upto_none : (scn : ℕ) (es : List LogEntry) → AllByRecursion (λ e. scn < e.scn) es → upto scn es ≡ []
 upto_none scn [] h = refl
 upto_none scn (e ∷ es) h = rw (lt-leb e.scn scn h.0) (upto_none scn es h.1)
+
+pub upto-append : (scn : ℕ) (xs ys : List LogEntry) → upto scn (xs ++ ys) ≡ upto scn xs ++ upto scn ys
+upto-append scn xs ys = filter-append (λ e. nat_le e.scn scn) xs ys
 
 -- each entry comes before all that follow it
 abbrev pub Ordered : List LogEntry → Type 0
@@ -138,3 +144,247 @@ merged_one rs h =
     let all : upto (frontier (rs ∷ [])) es ≡ es = rw (frontier_one rs) (upto_all (thread_mark rs).scn es (each_weaker (IsWithin 1 0 (thread_mark rs).scn) (λ e. e.scn ≤ (thread_mark rs).scn) (λ e k. k.upto) es (thread_entries_within 1 1 first_mark rs h))) in
     let whole : es ++ [] ≡ es = append-nil es in
     ap (λ l. numbered 0 (in_order (upto (frontier (rs ∷ [])) l))) whole ∙ ap (λ l. numbered 0 (in_order l)) all ∙ ap (numbered 0) (in_order_same es (thread_entries_ordered 1 1 first_mark rs h))
+
+-- no entry's SCN is above a later one's
+abbrev pub ScnsRise : List LogEntry → Type 0
+ScnsRise [] = Unit {0}
+ScnsRise (e ∷ es) = AllByRecursion (λ x. e.scn ≤ x.scn) es × ScnsRise es
+
+scn_if_before : (a b : LogEntry) → comes_before a b ≡ true → a.scn ≤ b.scn
+scn_if_before a b h = grind (arith, nat_tests)
+
+scn_if_not : (a b : LogEntry) → comes_before a b ≡ false → b.scn ≤ a.scn
+scn_if_not a b h = grind (arith, nat_tests)
+
+pub each-put_in : (P : LogEntry → Type 0) (e : LogEntry) (es : List LogEntry) → P e → AllByRecursion P es → AllByRecursion P (put_in e es)
+each-put_in P e [] p h = (p, tt)
+each-put_in P e (x ∷ xs) p h = by_test (comes_before e x) (each-put_in P e xs p h.1)
+  where
+    by_test : (b : Bool) → AllByRecursion P (put_in e xs) → AllByRecursion P (cond b (e ∷ x ∷ xs) (x ∷ put_in e xs))
+    by_test true k = (p, h)
+    by_test false k = (h.0, k)
+
+scns_rise-put_in : (e : LogEntry) (es : List LogEntry) → ScnsRise es → ScnsRise (put_in e es)
+scns_rise-put_in e [] h = (tt, tt)
+scns_rise-put_in e (x ∷ xs) h = by_test (comes_before e x) refl (scns_rise-put_in e xs h.1)
+  where
+    by_test : (b : Bool) → comes_before e x ≡ b → ScnsRise (put_in e xs) → ScnsRise (cond b (e ∷ x ∷ xs) (x ∷ put_in e xs))
+    by_test true t k =
+        let le = scn_if_before e x t in
+        ((le, each_weaker (λ y. x.scn ≤ y.scn) (λ y. e.scn ≤ y.scn) (λ y j. omega (arith, j, le)) xs h.0), h)
+    by_test false t k = (each-put_in (λ y. x.scn ≤ y.scn) e xs (scn_if_not e x t) h.0, k)
+
+scns_rise-in_order : (es : List LogEntry) → ScnsRise (in_order es)
+scns_rise-in_order [] = tt
+scns_rise-in_order (e ∷ es) = scns_rise-put_in e (in_order es) (scns_rise-in_order es)
+
+-- to keep the entries up to an SCN, before the order or after it
+upto-put_in : (scn : ℕ) (e : LogEntry) (es : List LogEntry) → ScnsRise es → e.scn ≤ scn → upto scn (put_in e es) ≡ put_in e (upto scn es)
+upto-put_in scn e [] h le = rw (le-leb e.scn scn le) refl
+upto-put_in scn e (x ∷ xs) h le = by_tests (comes_before e x) refl (nat_le x.scn scn) refl (upto-put_in scn e xs h.1 le)
+  where
+    by_tests : (b : Bool) → comes_before e x ≡ b → (c : Bool) → nat_le x.scn scn ≡ c → upto scn (put_in e xs) ≡ put_in e (upto scn xs) → upto scn (cond b (e ∷ x ∷ xs) (x ∷ put_in e xs)) ≡ put_in e (cond c (x ∷ upto scn xs) (upto scn xs))
+    by_tests true t true k ih = rw (le-leb e.scn scn le, k, t) refl
+    by_tests true t false k ih =
+        let above = leb-false x.scn scn k in
+        let none : upto scn xs ≡ [] = upto_none scn xs (each_weaker (λ y. x.scn ≤ y.scn) (λ y. scn < y.scn) (λ y j. omega (arith, j, above)) xs h.0) in
+        rw (le-leb e.scn scn le, k, none) refl
+    by_tests false t true k ih = rw (k, t) (ap (λ l. x ∷ l) ih)
+    by_tests false t false k ih = absurd (omega (arith, leb-false x.scn scn k, scn_if_not e x t, le))
+
+upto-put_in_above : (scn : ℕ) (e : LogEntry) (es : List LogEntry) → scn < e.scn → upto scn (put_in e es) ≡ upto scn es
+upto-put_in_above scn e [] l = rw (lt-leb e.scn scn l) refl
+upto-put_in_above scn e (x ∷ xs) l = by_test (comes_before e x) (upto-put_in_above scn e xs l)
+  where
+    by_test : (b : Bool) → upto scn (put_in e xs) ≡ upto scn xs → upto scn (cond b (e ∷ x ∷ xs) (x ∷ put_in e xs)) ≡ upto scn (x ∷ xs)
+    by_test true ih = rw (lt-leb e.scn scn l) refl
+    by_test false ih = ap (λ l. cond (nat_le x.scn scn) (x ∷ l) l) ih
+
+pub upto-in_order : (scn : ℕ) (es : List LogEntry) → upto scn (in_order es) ≡ in_order (upto scn es)
+upto-in_order scn [] = refl
+upto-in_order scn (e ∷ es) = by_test (nat_le e.scn scn) refl (upto-in_order scn es)
+  where
+    by_test : (b : Bool) → nat_le e.scn scn ≡ b → upto scn (in_order es) ≡ in_order (upto scn es) → upto scn (put_in e (in_order es)) ≡ in_order (cond b (e ∷ upto scn es) (upto scn es))
+    by_test true t ih = upto-put_in scn e (in_order es) (scns_rise-in_order es) (leb-true e.scn scn t) ∙ ap (put_in e) ih
+    by_test false t ih = upto-put_in_above scn e (in_order es) (leb-false e.scn scn t) ∙ ih
+
+pub upto-upto : (low high : ℕ) (es : List LogEntry) → low ≤ high → upto low (upto high es) ≡ upto low es
+upto-upto low high [] le = refl
+upto-upto low high (e ∷ es) le = by_tests (nat_le e.scn high) refl (nat_le e.scn low) refl (upto-upto low high es le)
+  where
+    by_tests : (b : Bool) → nat_le e.scn high ≡ b → (c : Bool) → nat_le e.scn low ≡ c → upto low (upto high es) ≡ upto low es → upto low (cond b (e ∷ upto high es) (upto high es)) ≡ cond c (e ∷ upto low es) (upto low es)
+    by_tests true t true k ih = rw k (ap (λ l. e ∷ l) ih)
+    by_tests true t false k ih = rw k ih
+    by_tests false t true k ih = absurd (omega (arith, leb-false e.scn high t, leb-true e.scn low k, le))
+    by_tests false t false k ih = ih
+
+-- what follows the entries up to an SCN, where SCNs rise
+pub scns_split : (scn : ℕ) (es : List LogEntry) → ScnsRise es → (rest : List LogEntry) × (es ≡ upto scn es ++ rest) × AllByRecursion (λ e. scn < e.scn) rest
+scns_split scn [] h = ([], refl, tt)
+scns_split scn (e ∷ es) h = by_test (nat_le e.scn scn) refl (scns_split scn es h.1)
+  where
+    by_test : (b : Bool) → nat_le e.scn scn ≡ b → (rest : List LogEntry) × (es ≡ upto scn es ++ rest) × AllByRecursion (λ x. scn < x.scn) rest → (rest : List LogEntry) × (e ∷ es ≡ cond b (e ∷ upto scn es) (upto scn es) ++ rest) × AllByRecursion (λ x. scn < x.scn) rest
+    by_test true t ih = (ih.0, ap (λ l. e ∷ l) ih.1, ih.2)
+    by_test false t ih =
+        let above = leb-false e.scn scn t in
+        let all = each_weaker (λ x. e.scn ≤ x.scn) (λ x. scn < x.scn) (λ x j. omega (arith, j, above)) es h.0 in
+        (e ∷ es, ap (λ l. l ++ e ∷ es) (sym (upto_none scn es all)), (above, all))
+
+pub each-numbered : (P : ℕ → Type 0) (pos : ℕ) (es : List LogEntry) → AllByRecursion (λ e. P e.scn) es → AllByRecursion (λ e. P e.scn) (numbered pos es)
+each-numbered P pos [] h = tt
+each-numbered P pos (e ∷ es) h = (h.0, each-numbered P (pos + 1) es h.1)
+
+-- what the frontier is below, and what is below it
+abbrev pub OpenFrom : ℕ → List Mark → Type 0
+OpenFrom scn marks = AllByRecursion (λ m. m.ended ≡ false → scn ≤ m.scn) marks
+
+scns_from_open : (scn : ℕ) (marks : List Mark) → OpenFrom scn marks → AllByRecursion (λ n. scn ≤ n) (scns_of (filter is_open marks))
+scns_from_open scn [] h = tt
+scns_from_open scn (m ∷ ms) h = by_end m.ended refl (scns_from_open scn ms h.1)
+  where
+    by_end : (b : Bool) → m.ended ≡ b → AllByRecursion (λ n. scn ≤ n) (scns_of (filter is_open ms)) → AllByRecursion (λ n. scn ≤ n) (scns_of (cond (not b) (m ∷ filter is_open ms) (filter is_open ms)))
+    by_end true t ih = ih
+    by_end false t ih = (h.0 t, ih)
+
+open_from_scns : (scn : ℕ) (marks : List Mark) → AllByRecursion (λ n. scn ≤ n) (scns_of (filter is_open marks)) → OpenFrom scn marks
+open_from_scns scn [] h = tt
+open_from_scns scn (m ∷ ms) h = by_end m.ended refl h (open_from_scns scn ms)
+  where
+    by_end : (b : Bool) → m.ended ≡ b → AllByRecursion (λ n. scn ≤ n) (scns_of (cond (not b) (m ∷ filter is_open ms) (filter is_open ms))) → (AllByRecursion (λ n. scn ≤ n) (scns_of (filter is_open ms)) → OpenFrom scn ms) → OpenFrom scn (m ∷ ms)
+    by_end true t k rec = (λ e. absurd (true≢false (sym t ∙ e)), rec k)
+    by_end false t k rec = (λ e. k.0, rec k.1)
+
+least_lower : (ns : List ℕ) → AllByRecursion (λ n. least ns ≤ n) ns
+least_lower [] = tt
+least_lower (n ∷ []) = (omega arith, tt)
+least_lower (n ∷ m ∷ more) =
+    (omega arith, each_weaker (λ k. least (m ∷ more) ≤ k) (λ k. least (n ∷ m ∷ more) ≤ k) (λ k h. omega (arith, h)) (m ∷ more) (least_lower (m ∷ more)))
+
+least_above : (low n : ℕ) (more : List ℕ) → AllByRecursion (λ k. low ≤ k) (n ∷ more) → low ≤ least (n ∷ more)
+least_above low n [] h = h.0
+least_above low n (m ∷ more) h = let ih = least_above low m more h.1 in omega (arith, h.0, ih)
+
+greatest_upper : (ns : List ℕ) → AllByRecursion (λ n. n ≤ greatest ns) ns
+greatest_upper [] = tt
+greatest_upper (n ∷ more) = (omega arith, each_weaker (λ k. k ≤ greatest more) (λ k. k ≤ greatest (n ∷ more)) (λ k h. omega (arith, h)) more (greatest_upper more))
+
+or_greatest_lower : (ns all : List ℕ) → AllByRecursion (λ n. or_greatest ns all ≤ n) ns
+or_greatest_lower [] all = tt
+or_greatest_lower (n ∷ more) all = least_lower (n ∷ more)
+
+or_greatest_above : (low : ℕ) (ns all : List ℕ) → AllByRecursion (λ n. low ≤ n) ns → low ≤ greatest all → low ≤ or_greatest ns all
+or_greatest_above low [] all h le = le
+or_greatest_above low (n ∷ more) all h le = least_above low n more h
+
+or_greatest_upto : (ns all : List ℕ) → AllByRecursion (λ n. n ≤ greatest all) ns → or_greatest ns all ≤ greatest all
+or_greatest_upto [] all h = omega arith
+or_greatest_upto (n ∷ more) all h = let low = (least_lower (n ∷ more)).0 in omega (arith, h.0, low)
+
+each-scns_open : (P : ℕ → Type 0) (marks : List Mark) → AllByRecursion P (scns_of marks) → AllByRecursion P (scns_of (filter is_open marks))
+each-scns_open P [] h = tt
+each-scns_open P (m ∷ ms) h = by_test (is_open m) (each-scns_open P ms h.1)
+  where
+    by_test : (b : Bool) → AllByRecursion P (scns_of (filter is_open ms)) → AllByRecursion P (scns_of (cond b (m ∷ filter is_open ms) (filter is_open ms)))
+    by_test true ih = (h.0, ih)
+    by_test false ih = ih
+
+-- a later mark of a thread
+pub record IsLater (before now : Mark) : Type 0 where
+  pub rises : before.scn ≤ now.scn
+  pub was_open : now.ended ≡ false → before.ended ≡ false
+
+later_open : (scn : ℕ) (ms ns : List Mark) → AllZip IsLater ms ns → OpenFrom scn ms → OpenFrom scn ns
+later_open scn [] [] h k = tt
+later_open scn [] (n ∷ ns) h k = absurd h
+later_open scn (m ∷ ms) [] h k = absurd h
+later_open scn (m ∷ ms) (n ∷ ns) h k = (λ e. let o = k.0 (h.0.was_open e) in omega (arith, o, h.0.rises), later_open scn ms ns h.1 k.1)
+
+later_greatest : (ms ns : List Mark) → AllZip IsLater ms ns → greatest (scns_of ms) ≤ greatest (scns_of ns)
+later_greatest [] [] h = omega arith
+later_greatest [] (n ∷ ns) h = absurd h
+later_greatest (m ∷ ms) [] h = absurd h
+later_greatest (m ∷ ms) (n ∷ ns) h = let ih = later_greatest ms ns h.1 in omega (arith, ih, h.0.rises)
+
+-- the frontier of marks
+abbrev front_of : List Mark → ℕ
+front_of marks = or_greatest (scns_of (filter is_open marks)) (scns_of marks)
+
+front_open : (marks : List Mark) → OpenFrom (front_of marks) marks
+front_open marks = open_from_scns (front_of marks) marks (or_greatest_lower (scns_of (filter is_open marks)) (scns_of marks))
+
+later_front : (ms ns : List Mark) → AllZip IsLater ms ns → front_of ms ≤ front_of ns
+later_front ms ns h =
+    let within = or_greatest_upto (scns_of (filter is_open ms)) (scns_of ms) (each-scns_open (λ n. n ≤ greatest (scns_of ms)) ms (greatest_upper (scns_of ms))) in
+    let rise = later_greatest ms ns h in
+    or_greatest_above (front_of ms) (scns_of (filter is_open ns)) (scns_of ns) (scns_from_open (front_of ms) ns (later_open (front_of ms) ms ns h (front_open ms))) (omega (arith, within, rise))
+
+-- records of a thread and more after them
+pub mark_after-append : (mark : Mark) (xs ys : List Raw) → mark_after mark (xs ++ ys) ≡ mark_after (mark_after mark xs) ys
+mark_after-append mark [] ys = refl
+mark_after-append mark (x ∷ xs) ys = mark_after-append (mark_of x) xs ys
+
+pub raws_after : (mark : Mark) (xs ys : List Raw) → AreRaws mark (xs ++ ys) → AreRaws (mark_after mark xs) ys
+raws_after mark [] ys h = h
+raws_after mark (x ∷ xs) ys h = raws_after (mark_of x) xs ys h.3
+
+more_later : (mark : Mark) (more : List Raw) → AreRaws mark more → IsLater mark (mark_after mark more)
+more_later mark [] h = record { rises = omega arith; was_open = λ e. e }
+more_later mark (r ∷ rs) h = record { rises = mark_rises mark (r ∷ rs) h; was_open = λ e. h.1 }
+
+-- the records after those of a thread, where the thread stood then
+continues_raws : (old new : List RedoRecord) (c : Continues old new) → AreRaws (thread_mark old) (map raw_of c.more)
+continues_raws old new c =
+    let e : map raw_of new ≡ map raw_of old ++ map raw_of c.more = ap (map raw_of) c.longer ∙ map-append raw_of old c.more in
+    raws_after first_mark (map raw_of old) (map raw_of c.more) (subst (AreRaws first_mark) e c.follow)
+
+continues_later : (old new : List RedoRecord) → Continues old new → IsLater (thread_mark old) (thread_mark new)
+continues_later old new c =
+    let e : thread_mark new ≡ mark_after (thread_mark old) (map raw_of c.more) = ap (λ rs. mark_after first_mark (map raw_of rs)) c.longer ∙ ap (mark_after first_mark) (map-append raw_of old c.more) ∙ mark_after-append first_mark (map raw_of old) (map raw_of c.more) in
+    subst (IsLater (thread_mark old)) (sym e) (more_later (thread_mark old) (map raw_of c.more) (continues_raws old new c))
+
+threads_later : (old new : List (List RedoRecord)) → AllZip Continues old new → AllZip IsLater (map thread_mark old) (map thread_mark new)
+threads_later [] [] h = tt
+threads_later [] (n ∷ ns) h = absurd h
+threads_later (o ∷ os) [] h = absurd h
+threads_later (o ∷ os) (n ∷ ns) h = (continues_later o n h.0, threads_later os ns h.1)
+
+-- no new entry is at or below what each open thread had reached
+more_above : (scn thread number : ℕ) (mark : Mark) (more : List RedoRecord) → AreRaws mark (map raw_of more) → (mark.ended ≡ false → scn ≤ mark.scn) → upto scn (thread_entries thread number more) ≡ []
+more_above scn thread number mark [] h k = refl
+more_above scn thread number mark (r ∷ rs) h k =
+    let le = k h.1 in
+    upto_none scn (thread_entries thread number (r ∷ rs)) (each_weaker (IsWithin thread mark.scn (mark_after mark (map raw_of (r ∷ rs))).scn) (λ e. scn < e.scn) (λ e j. omega (arith, j.above, le)) _ (thread_entries_within thread number mark (r ∷ rs) h))
+
+thread_same : (scn thread : ℕ) (old new : List RedoRecord) → Continues old new → ((thread_mark old).ended ≡ false → scn ≤ (thread_mark old).scn) → upto scn (thread_entries thread 1 new) ≡ upto scn (thread_entries thread 1 old)
+thread_same scn thread old new c k =
+    let front = thread_entries thread 1 old in
+    let back = thread_entries thread (1 + length old) c.more in
+    ap (λ rs. upto scn (thread_entries thread 1 rs)) c.longer
+    ∙ ap (upto scn) (thread_entries-append thread 1 old c.more)
+    ∙ upto-append scn front back
+    ∙ ap (λ l. upto scn front ++ l) (more_above scn thread (1 + length old) (thread_mark old) c.more (continues_raws old new c) k)
+    ∙ append-nil (upto scn front)
+
+entries_same : (scn thread : ℕ) (old new : List (List RedoRecord)) → AllZip Continues old new → OpenFrom scn (map thread_mark old) → upto scn (entries_from thread new) ≡ upto scn (entries_from thread old)
+entries_same scn thread [] [] h k = refl
+entries_same scn thread [] (n ∷ ns) h k = absurd h
+entries_same scn thread (o ∷ os) [] h k = absurd h
+entries_same scn thread (o ∷ os) (n ∷ ns) h k =
+    upto-append scn (thread_entries thread 1 n) (entries_from (thread + 1) ns)
+    ∙ ap₂ (λ a b. a ++ b) (thread_same scn thread o n h.0 k.0) (entries_same scn (thread + 1) os ns h.1 k.1)
+    ∙ sym (upto-append scn (thread_entries thread 1 o) (entries_from (thread + 1) os))
+
+pub log_grows : LogGrows
+unfolding frontier merged_log
+log_grows old new h =
+    let low = frontier old in
+    let high = frontier new in
+    let le : low ≤ high = later_front (map thread_mark old) (map thread_mark new) (threads_later old new h) in
+    let all = entries_from 1 new in
+    let log = in_order (upto high all) in
+    let split = scns_split low log (scns_rise-in_order (upto high all)) in
+    let e : upto low log ≡ in_order (upto low (entries_from 1 old)) =
+    upto-in_order low (upto high all) ∙ ap in_order (upto-upto low high all le) ∙ ap in_order (entries_same low 1 old new h (front_open (map thread_mark old))) in
+    let was = in_order (upto low (entries_from 1 old)) in
+    let whole : log ≡ was ++ split.0 = split.1 ∙ ap (λ l. l ++ split.0) e in
+    (numbered (0 + length was) split.0, ap (numbered 0) whole ∙ numbered-append 0 was split.0, each-numbered (λ scn. low < scn) (0 + length was) split.0 split.2, le)

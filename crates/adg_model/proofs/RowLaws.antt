@@ -1,18 +1,14 @@
 -- Lemmas on the walk over a log, and the laws of its rows.
-use Rattle.std.proofs.Common.{◌≡◌, ℕ, List, [], ◌∷◌, ◌++◌, refl, ap, ◌∙◌, append-nil, nat_le}
-use Rattle.std.proofs.lemmas.List.Elements.{filter-append}
+use Rattle.std.proofs.Common.{◌≡◌, List, [], ◌∷◌, ◌++◌, refl, ap, ◌∙◌, append-nil}
 use Rattle.adg_base.specs.declared.log.LogEntry.{LogEntry}
 use Rattle.adg_model.specs.Log.{upto}
 use Rattle.adg_model.specs.Database.{Database, after, walked, database}
 use Rattle.adg_model.specs.Laws.{RowsStopAtScn}
-use Rattle.adg_model.proofs.LogLaws.{upto_none}
+use Rattle.adg_model.proofs.LogLaws.{upto-append, upto_none}
 
 pub walked-append : (db : Database) (xs ys : List LogEntry) → walked db (xs ++ ys) ≡ walked (walked db xs) ys
 walked-append db [] ys = refl
 walked-append db (x ∷ xs) ys = walked-append (after db x.vector) xs ys
-
-pub upto-append : (scn : ℕ) (xs ys : List LogEntry) → upto scn (xs ++ ys) ≡ upto scn xs ++ upto scn ys
-upto-append scn xs ys = filter-append (λ e. nat_le e.scn scn) xs ys
 
 pub rows_stop_at_scn : RowsStopAtScn
 rows_stop_at_scn log more scn h =

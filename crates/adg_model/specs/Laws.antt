@@ -1,14 +1,28 @@
 -- Laws of the definitions: what holds of every log and every transcript, as evidence that the definitions say what they mean.
-use Rattle.std.specs.Prelude.{◌≡◌, ℕ, ◌<◌, ◌≤◌, List, [], ◌∷◌, ◌++◌, length}
-use Rattle.std.specs.List.{flat_map, filter_map, AllByRecursion}
+use Rattle.std.specs.Prelude.{◌≡◌, ℕ, ◌<◌, ◌≤◌, List, [], ◌∷◌, ◌++◌, length, map}
+use Rattle.std.specs.List.{flat_map, filter_map, AllByRecursion, AllZip}
 use Rattle.std.specs.List.Sorted.{IsNonDecreasing}
 use Rattle.adg_base.specs.declared.vector.RedoRecord.{RedoRecord}
 use Rattle.adg_base.specs.declared.log.LogEntry.{LogEntry}
 use Rattle.adg_base.specs.declared.answer.Lines.{Lines}
 use Rattle.adg_model.specs.declared.delivery.RawDelivery.{RawDelivery}
-use Rattle.adg_model.specs.Log.{frontier, ReceivedFrom}
+use Rattle.adg_model.specs.Records.{first_mark, raw_of, AreRaws}
+use Rattle.adg_model.specs.Log.{frontier, merged_log, ReceivedFrom}
 use Rattle.adg_model.specs.Database.{rows_at, table_at}
 use Rattle.adg_model.specs.Transcript.{scn_of, replies_to, LegalFrom}
+
+-- a thread has the records that it had, and more after them, and they may all follow each other
+pub record Continues (old new : List RedoRecord) : Type 0 where
+  pub more : List RedoRecord
+  pub longer : new ≡ old ++ more
+  pub follow : AreRaws first_mark (map raw_of new)
+
+-- As threads get more records the log only grows: what is new in it follows what was there, at SCNs
+-- above the frontier that was, and the frontier does not fall.
+abbrev pub LogGrows : Type 0
+LogGrows =
+    (old new : List (List RedoRecord)) → AllZip Continues old new
+    → (rest : List LogEntry) × (merged_log new ≡ merged_log old ++ rest) × AllByRecursion (λ e. frontier old < e.scn) rest × (frontier old ≤ frontier new)
 
 -- Rows and definitions at an SCN do not depend on the entries above it.
 abbrev pub RowsStopAtScn : Type 0

@@ -1,7 +1,13 @@
 //! Laws of the definitions in `specs/`, each the promise of a function that does nothing: evidence
 //! that the definitions say what they mean.
 
-ghost use Rattle.adg_model.specs.Laws.{RowsStopAtScn, ScnsDoNotFall};
+ghost use Rattle.adg_model.specs.Laws.{LogGrows, RowsStopAtScn, ScnsDoNotFall};
+
+/// As threads get more records the merged log only grows, at SCNs above the frontier that was, and
+/// the frontier does not fall.
+pub fn log_grows()
+    ensures { LogGrows }
+{}
 
 /// Rows and definitions at an SCN do not depend on entries above it.
 pub fn rows_stop_at_scn()
