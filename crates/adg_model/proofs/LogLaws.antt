@@ -1,15 +1,17 @@
 -- Lemmas on the frontier and the merged log.
-use Rattle.std.proofs.Common.{◌≡◌, ℕ, ◌+◌, ◌<◌, ◌≤◌, Bool, true, false, cond, not, nat_le, List, [], ◌∷◌, ◌++◌, map, length, filter, refl, sym, ap, ap₂, ◌∙◌, subst, arith, append_assoc, append-nil, true≢false}
-use Rattle.std.specs.List.{AllByRecursion, AllZip}
-use Rattle.std.proofs.lemmas.Bool.{le-leb, lt-leb, leb-true, leb-false}
+use Rattle.std.proofs.Common.{◌≡◌, ℕ, ◌+◌, ◌<◌, ◌≤◌, Bool, true, false, cond, not, nat_le, List, [], ◌∷◌, ◌++◌, map, length, filter, ◌⊎◌, inl, inr, refl, sym, ap, ap₂, ◌∙◌, subst, arith, append_assoc, append-nil, true≢false, AllPairs, IsPermutation}
+use Rattle.std.specs.List.{AllByRecursion, AllZip, range_with_len}
+use Rattle.std.proofs.lemmas.Bool.{le-leb, lt-leb, leb-true, leb-false, cases_order}
+use Rattle.std.proofs.lemmas.List.Kept.{AllPairs-cons}
+use Rattle.std.proofs.lemmas.List.Sorted.{IsPermutation-refl, IsPermutation-cons, IsPermutation-trans, IsPermutation-middle}
 use Rattle.std.proofs.lemmas.Bool.Decides.{nat_tests}
 use Rattle.adg_base.specs.declared.vector.Vector.{Vector}
 use Rattle.adg_base.specs.declared.vector.RedoRecord.{RedoRecord}
 use Rattle.adg_base.specs.declared.log.LogEntry.{LogEntry}
 use Rattle.adg_model.specs.Records.{Mark, Raw, first_mark, mark_of, mark_after, raw_of, AreRaws}
-use Rattle.adg_model.specs.Laws.{Continues, LogGrows}
+use Rattle.adg_model.specs.Laws.{Continues, LogGrows, unplaced, LogIsOrdered}
 use Rattle.std.proofs.lemmas.List.{map-append}
-use Rattle.std.proofs.lemmas.List.Elements.{filter-append}
+use Rattle.std.proofs.lemmas.List.Elements.{filter-append, All-from_recursion}
 use Rattle.adg_model.specs.Log.{thread_mark, least, greatest, is_open, scns_of, or_greatest, frontier, record_entries, thread_entries, entries_from, comes_before, put_in, in_order, numbered, upto, merged_log}
 
 -- what holds of each element, over `++`
@@ -388,3 +390,144 @@ log_grows old new h =
     let was = in_order (upto low (entries_from 1 old)) in
     let whole : log ≡ was ++ split.0 = split.1 ∙ ap (λ l. l ++ split.0) e in
     (numbered (0 + length was) split.0, ap (numbered 0) whole ∙ numbered-append 0 was split.0, each-numbered (λ scn. low < scn) (0 + length was) split.0 split.2, le)
+
+-- two entries of which one comes before the other
+abbrev pub Apart : LogEntry → LogEntry → Type 0
+Apart a b = (comes_before a b ≡ true) ⊎ (comes_before b a ≡ true)
+
+abbrev pub AllApart : List LogEntry → Type 0
+AllApart [] = Unit {0}
+AllApart (e ∷ es) = AllByRecursion (Apart e) es × AllApart es
+
+apart_by_thread : (a b : LogEntry) → a.thread < b.thread → Apart a b
+apart_by_thread a b h = by_scn (cases_order a.scn b.scn)
+  where
+    by_scn : (a.scn ≡ b.scn) ⊎ ((a.scn < b.scn) ⊎ (b.scn < a.scn)) → Apart a b
+    by_scn (inl e) = inl (before_by_thread a b e h)
+    by_scn (inr (inl l)) = inl (before_by_scn a b l)
+    by_scn (inr (inr l)) = inr (before_by_scn b a l)
+
+apart_from_ordered : (es : List LogEntry) → Ordered es → AllApart es
+apart_from_ordered [] h = tt
+apart_from_ordered (e ∷ es) h = (each_weaker (λ x. comes_before e x ≡ true) (Apart e) (λ x k. inl k) es h.0, apart_from_ordered es h.1)
+
+apart-append : (xs ys : List LogEntry) → AllApart xs → AllApart ys → AllByRecursion (λ x. AllByRecursion (Apart x) ys) xs → AllApart (xs ++ ys)
+apart-append [] ys h k between = k
+apart-append (x ∷ xs) ys h k between = (each-append (Apart x) xs ys h.0 between.0, apart-append xs ys h.1 k between.1)
+
+each-upto : (P : LogEntry → Type 0) (scn : ℕ) (es : List LogEntry) → AllByRecursion P es → AllByRecursion P (upto scn es)
+each-upto P scn [] h = tt
+each-upto P scn (e ∷ es) h = by_test (nat_le e.scn scn) (each-upto P scn es h.1)
+  where
+    by_test : (b : Bool) → AllByRecursion P (upto scn es) → AllByRecursion P (cond b (e ∷ upto scn es) (upto scn es))
+    by_test true ih = (h.0, ih)
+    by_test false ih = ih
+
+apart-upto : (scn : ℕ) (es : List LogEntry) → AllApart es → AllApart (upto scn es)
+apart-upto scn [] h = tt
+apart-upto scn (e ∷ es) h = by_test (nat_le e.scn scn) (apart-upto scn es h.1)
+  where
+    by_test : (b : Bool) → AllApart (upto scn es) → AllApart (cond b (e ∷ upto scn es) (upto scn es))
+    by_test true ih = (each-upto (Apart e) scn es h.0, ih)
+    by_test false ih = ih
+
+-- the entries of sound threads, any two of which are apart
+abbrev AreThreads : List (List RedoRecord) → Type 0
+AreThreads threads = AllByRecursion (λ records. AreRaws first_mark (map raw_of records)) threads
+
+from_threads : (thread : ℕ) (threads : List (List RedoRecord)) → AreThreads threads → AllByRecursion (λ e. thread ≤ e.thread) (entries_from thread threads)
+from_threads thread [] h = tt
+from_threads thread (rs ∷ more) h =
+    let here = thread_entries_within thread 1 first_mark rs h.0 in
+    let later = from_threads (thread + 1) more h.1 in
+    each-append (λ e. thread ≤ e.thread) (thread_entries thread 1 rs) (entries_from (thread + 1) more)
+    (each_weaker (IsWithin thread 0 (thread_mark rs).scn) (λ e. thread ≤ e.thread) (λ e k. omega (arith, k.same_thread)) _ here)
+    (each_weaker (λ e. thread + 1 ≤ e.thread) (λ e. thread ≤ e.thread) (λ e k. omega (arith, k)) _ later)
+
+apart_threads : (thread : ℕ) (threads : List (List RedoRecord)) → AreThreads threads → AllApart (entries_from thread threads)
+apart_threads thread [] h = tt
+apart_threads thread (rs ∷ more) h =
+    let front = thread_entries thread 1 rs in
+    let back = entries_from (thread + 1) more in
+    let later = from_threads (thread + 1) more h.1 in
+    apart-append front back (apart_from_ordered front (thread_entries_ordered thread 1 first_mark rs h.0)) (apart_threads (thread + 1) more h.1)
+    (each_weaker (IsWithin thread 0 (thread_mark rs).scn) (λ x. AllByRecursion (Apart x) back) (λ x k. each_weaker (λ y. thread + 1 ≤ y.thread) (Apart x) (λ y j. apart_by_thread x y (omega (arith, k.same_thread, j))) back later) front (thread_entries_within thread 1 first_mark rs h.0))
+
+-- entries that are apart are put in order
+before_trans : (a b c : LogEntry) → comes_before a b ≡ true → comes_before b c ≡ true → comes_before a c ≡ true
+before_trans a b c h k = grind (arith, nat_tests)
+
+ordered-put_in : (e : LogEntry) (es : List LogEntry) → Ordered es → AllByRecursion (Apart e) es → Ordered (put_in e es)
+ordered-put_in e [] h k = (tt, tt)
+ordered-put_in e (x ∷ xs) h k = by_test (comes_before e x) refl k.0 (ordered-put_in e xs h.1 k.1)
+  where
+    by_test : (b : Bool) → comes_before e x ≡ b → Apart e x → Ordered (put_in e xs) → Ordered (cond b (e ∷ x ∷ xs) (x ∷ put_in e xs))
+    by_test true t a ih = ((t, each_weaker (λ y. comes_before x y ≡ true) (λ y. comes_before e y ≡ true) (λ y j. before_trans e x y t j) xs h.0), h)
+    by_test false t (inl a) ih = absurd (true≢false (sym a ∙ t))
+    by_test false t (inr a) ih = (each-put_in (λ y. comes_before x y ≡ true) e xs a h.0, ih)
+
+each-in_order : (P : LogEntry → Type 0) (es : List LogEntry) → AllByRecursion P es → AllByRecursion P (in_order es)
+each-in_order P [] h = tt
+each-in_order P (e ∷ es) h = each-put_in P e (in_order es) h.0 (each-in_order P es h.1)
+
+ordered-in_order : (es : List LogEntry) → AllApart es → Ordered (in_order es)
+ordered-in_order [] h = tt
+ordered-in_order (e ∷ es) h = ordered-put_in e (in_order es) (ordered-in_order es h.1) (each-in_order (Apart e) es h.0)
+
+before-numbered : (x : LogEntry) (pos : ℕ) (es : List LogEntry) → AllByRecursion (λ e. comes_before x e ≡ true) es → AllByRecursion (λ e. comes_before x e ≡ true) (numbered pos es)
+before-numbered x pos [] h = tt
+before-numbered x pos (e ∷ es) h = (h.0, before-numbered x (pos + 1) es h.1)
+
+ordered-numbered : (pos : ℕ) (es : List LogEntry) → Ordered es → Ordered (numbered pos es)
+ordered-numbered pos [] h = tt
+ordered-numbered pos (e ∷ es) h = (before-numbered (record e { pos = pos }) (pos + 1) es h.0, ordered-numbered (pos + 1) es h.1)
+
+pairs_from_ordered : (es : List LogEntry) → Ordered es → AllPairs (λ a b. comes_before a b ≡ true) es
+pairs_from_ordered [] h = λ i j d l within. absurd (omega (arith, within))
+pairs_from_ordered (e ∷ es) h = AllPairs-cons (λ a b. comes_before a b ≡ true) e es (All-from_recursion (λ x. comes_before e x ≡ true) es h.0) (pairs_from_ordered es h.1)
+
+-- the order moves entries, and a position changes nothing else
+permutation-put_in : (e : LogEntry) (es : List LogEntry) → IsPermutation (e ∷ es) (put_in e es)
+permutation-put_in e [] = IsPermutation-refl (e ∷ [])
+permutation-put_in e (x ∷ xs) = by_test (comes_before e x) (permutation-put_in e xs)
+  where
+    by_test : (b : Bool) → IsPermutation (e ∷ xs) (put_in e xs) → IsPermutation (e ∷ x ∷ xs) (cond b (e ∷ x ∷ xs) (x ∷ put_in e xs))
+    by_test true ih = IsPermutation-refl (e ∷ x ∷ xs)
+    by_test false ih = IsPermutation-trans (e ∷ x ∷ xs) (x ∷ e ∷ xs) (x ∷ put_in e xs) (IsPermutation-middle (e ∷ []) x xs) (IsPermutation-cons x (e ∷ xs) (put_in e xs) ih)
+
+permutation-in_order : (es : List LogEntry) → IsPermutation es (in_order es)
+permutation-in_order [] = IsPermutation-refl []
+permutation-in_order (e ∷ es) =
+    IsPermutation-trans (e ∷ es) (e ∷ in_order es) (put_in e (in_order es)) (IsPermutation-cons e es (in_order es) (permutation-in_order es)) (permutation-put_in e (in_order es))
+
+record_unplaced : (thread number scn index : ℕ) (vs : List Vector) → AllByRecursion (λ e. e.pos ≡ 0) (record_entries thread number scn index vs)
+record_unplaced thread number scn index [] = tt
+record_unplaced thread number scn index (v ∷ vs) = (refl, record_unplaced thread number scn (index + 1) vs)
+
+thread_unplaced : (thread number : ℕ) (rs : List RedoRecord) → AllByRecursion (λ e. e.pos ≡ 0) (thread_entries thread number rs)
+thread_unplaced thread number [] = tt
+thread_unplaced thread number (r ∷ rs) = each-append (λ e. e.pos ≡ 0) (record_entries thread number r.scn 1 r.vectors) (thread_entries thread (number + 1) rs) (record_unplaced thread number r.scn 1 r.vectors) (thread_unplaced thread (number + 1) rs)
+
+all_unplaced : (thread : ℕ) (threads : List (List RedoRecord)) → AllByRecursion (λ e. e.pos ≡ 0) (entries_from thread threads)
+all_unplaced thread [] = tt
+all_unplaced thread (rs ∷ more) = each-append (λ e. e.pos ≡ 0) (thread_entries thread 1 rs) (entries_from (thread + 1) more) (thread_unplaced thread 1 rs) (all_unplaced (thread + 1) more)
+
+unplaced-numbered : (pos : ℕ) (es : List LogEntry) → AllByRecursion (λ e. e.pos ≡ 0) es → map unplaced (numbered pos es) ≡ es
+unplaced-numbered pos [] h = refl
+unplaced-numbered pos (e ∷ es) h = ap₂ (λ (x : LogEntry) (xs : List LogEntry). x ∷ xs) (ap (λ (n : ℕ). record e { pos = n }) (sym h.0)) (unplaced-numbered (pos + 1) es h.1)
+
+pos-numbered : (pos : ℕ) (es : List LogEntry) → map (λ e. e.pos) (numbered pos es) ≡ range_with_len pos (length (numbered pos es))
+pos-numbered pos [] = refl
+pos-numbered pos (e ∷ es) = ap (λ l. pos ∷ l) (pos-numbered (pos + 1) es)
+
+pub log_is_ordered : LogIsOrdered
+unfolding merged_log
+log_is_ordered threads h =
+    let kept = upto (frontier threads) (entries_from 1 threads) in
+    let apart = apart-upto (frontier threads) (entries_from 1 threads) (apart_threads 1 threads h) in
+    let clear = each-in_order (λ e. e.pos ≡ 0) kept (each-upto (λ e. e.pos ≡ 0) (frontier threads) (entries_from 1 threads) (all_unplaced 1 threads)) in
+    record {
+      rises = pairs_from_ordered (numbered 0 (in_order kept)) (ordered-numbered 0 (in_order kept) (ordered-in_order kept apart));
+      positions = pos-numbered 0 (in_order kept);
+      once = subst (IsPermutation kept) (sym (unplaced-numbered 0 (in_order kept) clear)) (permutation-in_order kept);
+    }
