@@ -8,3 +8,4 @@ pub mod Query
 pub mod Command
 pub mod Reply
 pub mod Transcript
+pub mod Laws

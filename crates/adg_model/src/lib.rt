@@ -4,3 +4,4 @@
 
 pub mod delivery;
 pub mod fault;
+pub mod laws;

@@ -1,0 +1,115 @@
+-- Laws of the definitions: what holds of every log and every transcript, as evidence that the definitions say what they mean.
+use Rattle.std.specs.Prelude.{◌≡◌, ℕ, ◌<◌, ◌≤◌, Bool, true, false, not, ◌==◌, List, [], ◌∷◌, ◌++◌, length, map, filter}
+use Rattle.std.specs.List.{flat_map, filter_map, list_any, range_with_len, AllByRecursion, AllZip, AllPairs}
+use Rattle.std.specs.List.Sorted.{IsNonDecreasing, IsPermutation}
+use Rattle.adg_base.specs.Address.{Place}
+use Rattle.adg_base.specs.declared.vector.Vector.{Vector}
+use Rattle.adg_base.specs.declared.vector.Vector.TheVariants.{Begin, Put, Delete, Undo, Commit, Abort, Create, DropObject, AddColumn, NoInMemory, EndThread}
+use Rattle.adg_base.specs.declared.vector.RedoRecord.{RedoRecord}
+use Rattle.adg_base.specs.declared.log.LogEntry.{LogEntry}
+use Rattle.adg_base.specs.declared.answer.Lines.{Lines}
+use Rattle.adg_model.specs.declared.delivery.RawDelivery.{RawDelivery}
+use Rattle.adg_model.specs.Records.{first_mark, raw_of, AreRaws}
+use Rattle.adg_model.specs.Log.{frontier, entries_from, comes_before, upto, merged_log, ReceivedFrom}
+use Rattle.adg_model.specs.Database.{rows_at, table_at}
+use Rattle.adg_model.specs.Transcript.{scn_of, replies_to, LegalFrom}
+
+-- a thread has the records that it had, and more after them, and they may all follow each other
+pub record Continues (old new : List RedoRecord) : Type 0 where
+  pub more : List RedoRecord
+  pub longer : new ≡ old ++ more
+  pub follow : AreRaws first_mark (map raw_of new)
+
+-- As threads get more records the log only grows: what is new in it follows what was there, at SCNs
+-- above the frontier that was, and the frontier does not fall.
+abbrev pub LogGrows : Type 0
+LogGrows =
+    (old new : List (List RedoRecord)) → AllZip Continues old new
+    → (rest : List LogEntry) × (merged_log new ≡ merged_log old ++ rest) × AllByRecursion (λ e. frontier old < e.scn) rest × (frontier old ≤ frontier new)
+
+-- an entry without its position
+abbrev pub unplaced : LogEntry → LogEntry
+unplaced e = record e { pos = 0 }
+
+-- The log of these threads: each entry comes before all that follow it, by SCN, thread and place; the
+-- positions count from 0; and the entries are the vectors of the records up to the frontier, each once.
+pub record IsInOrder (threads : List (List RedoRecord)) : Type 0 where
+  pub rises : AllPairs (λ a b. comes_before a b ≡ true) (merged_log threads)
+  pub positions : map (λ e. e.pos) (merged_log threads) ≡ range_with_len 0 (length (merged_log threads))
+  pub once : IsPermutation (upto (frontier threads) (entries_from 1 threads)) (map unplaced (merged_log threads))
+
+-- So is the log of any threads whose records may follow each other.
+abbrev pub LogIsOrdered : Type 0
+LogIsOrdered =
+    (threads : List (List RedoRecord)) → AllByRecursion (λ records. AreRaws first_mark (map raw_of records)) threads → IsInOrder threads
+
+-- Rows and definitions at an SCN do not depend on the entries above it.
+abbrev pub RowsStopAtScn : Type 0
+RowsStopAtScn =
+    (log more : List LogEntry) (scn : ℕ) → AllByRecursion (λ e. scn < e.scn) more
+    → (rows_at (log ++ more) scn ≡ rows_at log scn) × (table_at (log ++ more) scn ≡ table_at log scn)
+
+-- whether a vector names a transaction, and whether it commits it
+abbrev pub is_of : ℕ → Vector → Bool
+is_of t (Begin txn) = txn == t
+is_of t (Put txn o b s row) = txn == t
+is_of t (Delete txn o b s) = txn == t
+is_of t (Undo txn o b s) = txn == t
+is_of t (Commit txn flag) = txn == t
+is_of t (Abort txn) = txn == t
+is_of t (Create o e f columns) = false
+is_of t (DropObject o) = false
+is_of t (AddColumn o k) = false
+is_of t (NoInMemory o) = false
+is_of t EndThread = false
+
+abbrev pub commits : ℕ → Vector → Bool
+commits t (Begin txn) = false
+commits t (Put txn o b s row) = false
+commits t (Delete txn o b s) = false
+commits t (Undo txn o b s) = false
+commits t (Commit txn flag) = txn == t
+commits t (Abort txn) = false
+commits t (Create o e f columns) = false
+commits t (DropObject o) = false
+commits t (AddColumn o k) = false
+commits t (NoInMemory o) = false
+commits t EndThread = false
+
+abbrev pub has_committed : ℕ → List LogEntry → Bool
+has_committed t log = list_any (λ e. commits t e.vector) log
+
+-- a log without the entries of a transaction
+abbrev pub without : ℕ → List LogEntry → List LogEntry
+without t log = filter (λ e. not (is_of t e.vector)) log
+
+-- A transaction that has not committed at an SCN changes no row at it: the rows are those of the log
+-- without its entries.
+abbrev pub UncommittedChangeNothing : Type 0
+UncommittedChangeNothing =
+    (log : List LogEntry) (t scn : ℕ) → has_committed t (upto scn log) ≡ false
+    → (at : Place) → rows_at log scn at ≡ rows_at (without t log) scn at
+
+-- what a session reads in the lines of a delivery: the SCNs of its replies in their order, then the end
+abbrev pub scns_in : ℕ → Lines → List ℕ
+scns_in session lines = filter_map scn_of (replies_to session lines.list) ++ lines.end ∷ []
+
+abbrev pub scns_read : ℕ → List Lines → List ℕ
+scns_read session lines = flat_map (scns_in session) lines
+
+-- what a session reads in each delivery is at most the frontier of the records received so far
+abbrev pub StayBelow : (threads session : ℕ) → List RawDelivery → List RawDelivery → List Lines → Type 0
+StayBelow threads session earlier [] [] = Unit {0}
+StayBelow threads session earlier [] (l ∷ ls) = ⊥
+StayBelow threads session earlier (d ∷ ds) [] = ⊥
+StayBelow threads session earlier (d ∷ ds) (l ∷ ls) =
+    (records : List (List RedoRecord)) × (length records ≡ threads) × ReceivedFrom 1 (earlier ++ d ∷ []) records
+    × AllByRecursion (λ scn. scn ≤ frontier records) (scns_in session l) × StayBelow threads session (earlier ++ d ∷ []) ds ls
+
+-- In a legal transcript the SCNs that a session reads do not fall, from the floor on and from delivery
+-- to delivery, and none is above the frontier then.
+abbrev pub ScnsDoNotFall : Type 0
+ScnsDoNotFall =
+    (threads sessions floor : ℕ) (earlier deliveries : List RawDelivery) (lines : List Lines)
+    → LegalFrom threads sessions earlier floor deliveries lines → (session : ℕ)
+    → IsNonDecreasing (floor ∷ scns_read session lines) × StayBelow threads session earlier deliveries lines

@@ -1,0 +1,31 @@
+//! Laws of the definitions in `specs/`, each the promise of a function that does nothing: evidence
+//! that the definitions say what they mean.
+
+ghost use Rattle.adg_model.specs.Laws.{LogGrows, LogIsOrdered, RowsStopAtScn, ScnsDoNotFall, UncommittedChangeNothing};
+
+/// As threads get more records the merged log only grows, at SCNs above the frontier that was, and
+/// the frontier does not fall.
+pub fn log_grows()
+    ensures { LogGrows }
+{}
+
+/// The merged log has each vector of the records up to the frontier once, in strictly rising order.
+pub fn log_is_ordered()
+    ensures { LogIsOrdered }
+{}
+
+/// Rows and definitions at an SCN do not depend on entries above it.
+pub fn rows_stop_at_scn()
+    ensures { RowsStopAtScn }
+{}
+
+/// A transaction that has not committed at an SCN changes no row at it.
+pub fn uncommitted_change_nothing()
+    ensures { UncommittedChangeNothing }
+{}
+
+/// In a legal transcript no session reads an SCN that is lower than one that it read before, or that
+/// is above the frontier.
+pub fn scns_do_not_fall()
+    ensures { ScnsDoNotFall }
+{}
