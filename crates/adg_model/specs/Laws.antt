@@ -20,12 +20,27 @@ pub record Continues (old new : List RedoRecord) : Type 0 where
   pub longer : new ≡ old ++ more
   pub follow : AreRaws first_mark (map raw_of new)
 
--- As threads get more records the log only grows: what is new in it follows what was there, at SCNs
--- above the frontier that was, and the frontier does not fall.
+-- The log only grew: what is new in it follows what was there, at SCNs above the frontier that was, and
+-- the frontier did not fall.
+abbrev pub HasGrown : List (List RedoRecord) → List (List RedoRecord) → Type 0
+HasGrown old new =
+    (rest : List LogEntry) × (merged_log new ≡ merged_log old ++ rest) × AllByRecursion (λ e. frontier old < e.scn) rest × (frontier old ≤ frontier new)
+
+-- So it does as threads get more records,
 abbrev pub LogGrows : Type 0
-LogGrows =
-    (old new : List (List RedoRecord)) → AllZip Continues old new
-    → (rest : List LogEntry) × (merged_log new ≡ merged_log old ++ rest) × AllByRecursion (λ e. frontier old < e.scn) rest × (frontier old ≤ frontier new)
+LogGrows = (old new : List (List RedoRecord)) → AllZip Continues old new → HasGrown old new
+
+-- and as more deliveries come.
+abbrev pub LogGrowsByDelivery : Type 0
+LogGrowsByDelivery =
+    (deliveries more : List RawDelivery) (old new : List (List RedoRecord)) → length old ≡ length new
+    → ReceivedFrom 1 deliveries old → ReceivedFrom 1 (deliveries ++ more) new → HasGrown old new
+
+-- Deliveries give so many threads the records of one list each, and of no other.
+abbrev pub RecordsAreDetermined : Type 0
+RecordsAreDetermined =
+    (deliveries : List RawDelivery) (a b : List (List RedoRecord)) → length a ≡ length b
+    → ReceivedFrom 1 deliveries a → ReceivedFrom 1 deliveries b → a ≡ b
 
 -- an entry without its position
 abbrev pub unplaced : LogEntry → LogEntry

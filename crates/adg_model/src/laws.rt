@@ -1,12 +1,22 @@
 //! Laws of the definitions in `specs/`, each the promise of a function that does nothing: evidence
 //! that the definitions say what they mean.
 
-ghost use Rattle.adg_model.specs.Laws.{LogGrows, LogIsOrdered, RowsStopAtScn, ScnsDoNotFall, UncommittedChangeNothing};
+ghost use Rattle.adg_model.specs.Laws.{LogGrows, LogGrowsByDelivery, LogIsOrdered, RecordsAreDetermined, RowsStopAtScn, ScnsDoNotFall, UncommittedChangeNothing};
 
 /// As threads get more records the merged log only grows, at SCNs above the frontier that was, and
 /// the frontier does not fall.
 pub fn log_grows()
     ensures { LogGrows }
+{}
+
+/// As more deliveries come the merged log only grows, in the same way.
+pub fn log_grows_by_delivery()
+    ensures { LogGrowsByDelivery }
+{}
+
+/// The records of threads are the only ones that their deliveries give.
+pub fn records_are_determined()
+    ensures { RecordsAreDetermined }
 {}
 
 /// The merged log has each vector of the records up to the frontier once, in strictly rising order.

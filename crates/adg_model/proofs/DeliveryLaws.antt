@@ -1,0 +1,115 @@
+-- The laws of deliveries: the records that they give are the only ones, and more deliveries only add to them.
+use Rattle.std.proofs.Common.{◌≡◌, ℕ, ◌+◌, ◌<◌, ◌^◌, List, [], ◌∷◌, ◌++◌, map, length, get_or, drop, refl, sym, ap, ap₂, ◌∙◌, subst, arith, append_assoc, append-nil, ⊎_elim}
+use Rattle.std.specs.List.{flat_map, AllZip}
+use Rattle.std.specs.Int.{w16, w64, to_be_bytes}
+use Rattle.std.proofs.lemmas.List.{length-append, nil_from_length}
+use Rattle.std.proofs.lemmas.Grind.{flat_map-append}
+use Rattle.std.proofs.lemmas.Nat.{from_be_bytes-to_be_bytes_2}
+use Rattle.adg_base.specs.declared.vector.RedoRecord.{RedoRecord}
+use Rattle.adg_model.specs.declared.delivery.RawDelivery.{RawDelivery}
+use Rattle.adg_model.specs.Spelling.{AreVectors}
+use Rattle.adg_model.specs.Records.{Raw, raw_len, raw_bytes, IsRaw, Mark, first_mark, mark_of, AreRaws, stated_len, IsPart, raw_of, bytes_for, thread_text, AreReadable, HasRecords}
+use Rattle.adg_model.specs.Log.{ReceivedFrom}
+use Rattle.adg_model.specs.Laws.{Continues, LogGrowsByDelivery, RecordsAreDetermined}
+use Rattle.adg_model.proofs.VectorsSpelled.{fronts, apart_16, apart_64, vectors_bytes-same}
+use Rattle.adg_model.proofs.LogLaws.{log_grows}
+
+-- the bytes of a record behind its length and its SCN, and what follows
+abbrev behind_scn : Raw → List ℕ → List ℕ
+behind_scn r rest = r.count ∷ (r.body ++ (to_be_bytes w16 (raw_len r) ++ rest))
+
+laid_out : (r : Raw) (rest : List ℕ) → raw_bytes r ++ rest ≡ to_be_bytes w16 (raw_len r) ++ (to_be_bytes w64 r.scn ++ behind_scn r rest)
+unfolding raw_bytes
+laid_out r rest =
+    let e : (r.body ++ to_be_bytes w16 (raw_len r)) ++ rest ≡ r.body ++ (to_be_bytes w16 (raw_len r) ++ rest) = append_assoc r.body (to_be_bytes w16 (raw_len r)) rest in
+    ap (λ l. to_be_bytes w16 (raw_len r) ++ (to_be_bytes w64 r.scn ++ r.count ∷ l)) e
+
+raw_apart : (a b : Raw) (x y : List ℕ) → IsRaw a → IsRaw b → raw_bytes a ++ x ≡ raw_bytes b ++ y → (a ≡ b) × (x ≡ y)
+raw_apart a b x y ha hb e =
+    let p = apart_16 (raw_len a) (raw_len b) (to_be_bytes w64 a.scn ++ behind_scn a x) (to_be_bytes w64 b.scn ++ behind_scn b y) ha.len hb.len (sym (laid_out a x) ∙ e ∙ laid_out b y) in
+    let low : a.scn < 2 ^ 64 = omega (arith, ha.to) in
+    let low' : b.scn < 2 ^ 64 = omega (arith, hb.to) in
+    let q = apart_64 a.scn b.scn (behind_scn a x) (behind_scn b y) low low' p.1 in
+    let count : a.count ≡ b.count = ap (λ l. get_or l 0 0) q.1 in
+    let long : length a.body ≡ length b.body = omega (arith, p.0) in
+    let r = fronts a.body b.body (to_be_bytes w16 (raw_len a) ++ x) (to_be_bytes w16 (raw_len b) ++ y) long (ap (drop 1) q.1) in
+    let same : a ≡ b = ap (λ n. record a { scn = n }) q.0 ∙ ap (λ n. record b { count = n; body = a.body }) count ∙ ap (λ l. record b { body = l }) r.0 in
+    (same, ap (drop 2) r.1)
+
+raw_no_part : (r : Raw) (rest : List ℕ) → IsRaw r → IsPart (raw_bytes r ++ rest) → ⊥
+raw_no_part r rest h part =
+    let t = to_be_bytes w16 (raw_len r) ++ (to_be_bytes w64 r.scn ++ behind_scn r rest) in
+    let part' : IsPart t = subst IsPart (laid_out r rest) part in
+    let says : stated_len t ≡ raw_len r = from_be_bytes-to_be_bytes_2 (raw_len r) h.len in
+    let back = length-append r.body (to_be_bytes w16 (raw_len r) ++ rest) in
+    ⊎_elim (λ few. omega (arith, back, few)) (λ few. omega (arith, back, says, few)) part'
+
+-- the records of a text, and of more behind it
+first_apart : (r : Raw) (rs : List Raw) (x more : List ℕ) → (flat_map raw_bytes (r ∷ rs) ++ x) ++ more ≡ raw_bytes r ++ ((flat_map raw_bytes rs ++ x) ++ more)
+first_apart r rs x more =
+    ap (λ l. l ++ more) (append_assoc (raw_bytes r) (flat_map raw_bytes rs) x) ∙ append_assoc (raw_bytes r) (flat_map raw_bytes rs ++ x) more
+
+raws_go_on : (mark : Mark) (rs ss : List Raw) (x y more : List ℕ) → AreRaws mark rs → AreRaws mark ss → IsPart y → (flat_map raw_bytes rs ++ x) ++ more ≡ flat_map raw_bytes ss ++ y → (ks : List Raw) × (ss ≡ rs ++ ks)
+raws_go_on mark [] ss x y more h k part e = (ss, refl)
+raws_go_on mark (r ∷ rs) [] x y more h k part e =
+    absurd (raw_no_part r ((flat_map raw_bytes rs ++ x) ++ more) h.0 (subst IsPart (sym e ∙ first_apart r rs x more) part))
+raws_go_on mark (r ∷ rs) (s ∷ ss) x y more h k part e =
+    let p = raw_apart r s ((flat_map raw_bytes rs ++ x) ++ more) (flat_map raw_bytes ss ++ y) h.0 k.0 (sym (first_apart r rs x more) ∙ e ∙ append_assoc (raw_bytes s) (flat_map raw_bytes ss) y) in
+    let later = raws_go_on (mark_of s) rs ss x y more (subst (λ t. AreRaws (mark_of t) rs) p.0 h.3) k.3 part p.1 in
+    (later.0, ap₂ (λ t ts. t ∷ ts) (sym p.0) later.1)
+
+cons_parts : (a b : Raw) (x y : List Raw) → a ∷ x ≡ b ∷ y → (a ≡ b) × (x ≡ y)
+cons_parts a b x y e = (cc, cc)
+
+-- records with vectors, by their bytes
+same_record : (a b : RedoRecord) → AreVectors (length a.vectors) a.vectors → AreVectors (length b.vectors) b.vectors → raw_of a ≡ raw_of b → a ≡ b
+same_record a b h k e =
+    let count : length a.vectors ≡ length b.vectors = ap (λ (r : Raw). r.count) e in
+    let vectors = vectors_bytes-same (length b.vectors) a.vectors b.vectors count (subst (λ n. AreVectors n a.vectors) count h) k (ap (λ (r : Raw). r.body) e) in
+    ap (λ n. record a { scn = n }) (ap (λ (r : Raw). r.scn) e) ∙ ap (λ vs. record b { vectors = vs }) vectors
+
+records_go_on : (old new : List RedoRecord) (ks : List Raw) → AreReadable old → AreReadable new → map raw_of new ≡ map raw_of old ++ ks → (more : List RedoRecord) × (new ≡ old ++ more)
+records_go_on [] new ks h k e = (new, refl)
+records_go_on (o ∷ os) [] ks h k e = absurd cc
+records_go_on (o ∷ os) (n ∷ ns) ks h k e =
+    let parts = cons_parts (raw_of n) (raw_of o) (map raw_of ns) (map raw_of os ++ ks) e in
+    let later = records_go_on os ns ks h.1 k.1 parts.1 in
+    (later.0, ap₂ (λ t ts. t ∷ ts) (same_record n o k.0 h.0 parts.0) later.1)
+
+text_goes_on : (text more : List ℕ) (old new : List RedoRecord) → HasRecords text old → HasRecords (text ++ more) new → Continues old new
+text_goes_on text more old new h k =
+    let raws = raws_go_on first_mark (map raw_of old) (map raw_of new) h.rest k.rest more h.raws.follow k.raws.follow k.raws.part (ap (λ l. l ++ more) (sym h.raws.spelled) ∙ k.raws.spelled) in
+    let records = records_go_on old new raws.0 h.vectors k.vectors raws.1 in
+    record { more = records.0; longer = records.1; follow = k.raws.follow }
+
+thread_text-append : (thread : ℕ) (ds es : List RawDelivery) → thread_text thread (ds ++ es) ≡ thread_text thread ds ++ thread_text thread es
+thread_text-append thread ds es = flat_map-append (λ d. flat_map (bytes_for thread) d.pieces) ds es
+
+received_go_on : (thread : ℕ) (ds es : List RawDelivery) (old new : List (List RedoRecord)) → length old ≡ length new → ReceivedFrom thread ds old → ReceivedFrom thread (ds ++ es) new → AllZip Continues old new
+received_go_on thread ds es [] [] n h k = tt
+received_go_on thread ds es [] (r ∷ rs) n h k = absurd (omega arith)
+received_go_on thread ds es (o ∷ os) [] n h k = absurd (omega arith)
+received_go_on thread ds es (o ∷ os) (r ∷ rs) n h k =
+    (text_goes_on (thread_text thread ds) (thread_text thread es) o r h.0 (subst (λ t. HasRecords t r) (thread_text-append thread ds es) k.0), received_go_on (thread + 1) ds es os rs (omega arith) h.1 k.1)
+
+pub log_grows_by_delivery : LogGrowsByDelivery
+log_grows_by_delivery ds more old new n h k = log_grows old new (received_go_on 1 ds more old new n h k)
+
+-- a text has the records of one list alone
+pub same_text : (text : List ℕ) (a b : List RedoRecord) → HasRecords text a → HasRecords text b → a ≡ b
+same_text text a b h k =
+    let whole : text ++ [] ≡ text = append-nil text in
+    let p = text_goes_on text [] a b h (subst (λ t. HasRecords t b) (sym whole) k) in
+    let q = text_goes_on text [] b a k (subst (λ t. HasRecords t a) (sym whole) h) in
+    let none : length p.more ≡ 0 = omega (arith, ap length p.longer, ap length q.longer, length-append a p.more, length-append b q.more) in
+    sym (p.longer ∙ ap (λ l. a ++ l) (nil_from_length p.more none) ∙ append-nil a)
+
+same_received : (thread : ℕ) (ds : List RawDelivery) (a b : List (List RedoRecord)) → length a ≡ length b → ReceivedFrom thread ds a → ReceivedFrom thread ds b → a ≡ b
+same_received thread ds [] [] n h k = refl
+same_received thread ds [] (r ∷ rs) n h k = absurd (omega arith)
+same_received thread ds (o ∷ os) [] n h k = absurd (omega arith)
+same_received thread ds (o ∷ os) (r ∷ rs) n h k =
+    ap₂ (λ t ts. t ∷ ts) (same_text (thread_text thread ds) o r h.0 k.0) (same_received (thread + 1) ds os rs (omega arith) h.1 k.1)
+
+pub records_are_determined : RecordsAreDetermined
+records_are_determined ds a b n h k = same_received 1 ds a b n h k
