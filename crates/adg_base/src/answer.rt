@@ -29,16 +29,36 @@ pub enum Reply {
         row: u64,
     },
     /// `units` column units were installed.
-    Populated { scn: Scn, units: u16 },
-    Synced { scn: Scn },
-    Shown { scn: Scn },
-    Aborted { scn: Scn },
+    Populated {
+        scn: Scn,
+        units: u16,
+    },
+    Synced {
+        scn: Scn,
+    },
+    Shown {
+        scn: Scn,
+    },
+    Aborted {
+        scn: Scn,
+    },
     /// The text is no command: `byte` is the length of its longest prefix that begins one.
-    BadQuery { scn: Scn, byte: u32 },
-    NoTable { scn: Scn },
-    NotInMemory { scn: Scn },
-    NoColumn { scn: Scn },
-    WrongType { scn: Scn },
+    BadQuery {
+        scn: Scn,
+        byte: u32,
+    },
+    NoTable {
+        scn: Scn,
+    },
+    NotInMemory {
+        scn: Scn,
+    },
+    NoColumn {
+        scn: Scn,
+    },
+    WrongType {
+        scn: Scn,
+    },
     /// The round ended by an abort before the command was answered.
     Down,
 }

@@ -10,7 +10,9 @@ use std::alloc::Global;
 #[derive(Debug, Drop)]
 pub enum Vector {
     /// A transaction begins.
-    Begin { txn: Txn },
+    Begin {
+        txn: Txn,
+    },
     /// A transaction sets a row. A slot of 64 or more is a fault that the checks of the log find.
     Put {
         txn: Txn,
@@ -35,9 +37,14 @@ pub enum Vector {
     },
     /// A transaction ends, and its changes become rows. The flag says whether it changed an
     /// in-memory object.
-    Commit { txn: Txn, flag: bool },
+    Commit {
+        txn: Txn,
+        flag: bool,
+    },
     /// A transaction ends, and its changes are forgotten.
-    Abort { txn: Txn },
+    Abort {
+        txn: Txn,
+    },
     /// An object is made, of this many extents; the flag says whether it is in-memory.
     Create {
         obj: Obj,
@@ -46,11 +53,18 @@ pub enum Vector {
         columns: KindList,
     },
     /// An object is dropped.
-    DropObject { obj: Obj },
+    DropObject {
+        obj: Obj,
+    },
     /// An object gets one column more.
-    AddColumn { obj: Obj, kind: ColKind },
+    AddColumn {
+        obj: Obj,
+        kind: ColKind,
+    },
     /// An object is no longer in-memory.
-    NoInMemory { obj: Obj },
+    NoInMemory {
+        obj: Obj,
+    },
     /// A redo thread ends.
     EndThread,
 }

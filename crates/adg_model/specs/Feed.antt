@@ -313,3 +313,10 @@ pub record LaterFails (bytes : List ℕ) (threads sessions : ℕ) (deliveries : 
   pub feed : IsFeed threads sessions deliveries
   pub spelled : bytes ≡ opening_bytes threads sessions ++ deliveries_bytes deliveries ++ rest
   pub fails : DeliveryFails (after_deliveries (start threads sessions) deliveries) (length (opening_bytes threads sessions ++ deliveries_bytes deliveries)) rest fault byte
+
+-- The first fault of bytes that are no whole feed, and the whole deliveries before it. Before the header
+-- is whole there are none, and the numbers of threads and sessions say nothing.
+abbrev pub FeedFails : List ℕ → (threads sessions : ℕ) → List (List Item) → FeedKind → ℕ → Type 0
+FeedFails bytes threads sessions deliveries fault byte =
+    ((deliveries ≡ []) × (MagicFails bytes fault byte ⊎ HeaderFails bytes fault byte))
+    ⊎ LaterFails bytes threads sessions deliveries fault byte

@@ -1,5 +1,5 @@
 -- A sound log: each entry passes the eight checks against the entries before it.
-use Rattle.std.specs.Prelude.{◌≡◌, ℕ, ◌+◌, ◌*◌, ◌<◌, Bool, true, false, not, nat_lt, ◌&&◌, List, [], ◌∷◌, ◌++◌, length, Option, Some, None}
+use Rattle.std.specs.Prelude.{◌≡◌, ℕ, ◌+◌, ◌*◌, ◌<◌, ◌≤◌, Bool, true, false, not, nat_lt, ◌&&◌, List, [], ◌∷◌, ◌++◌, length, Option, Some, None}
 use Rattle.adg_base.specs.declared.value.ColKind.{ColKind}
 use Rattle.adg_base.specs.declared.value.ColKind.TheVariants as kind
 use Rattle.adg_base.specs.declared.value.Value.{Value}
@@ -16,7 +16,7 @@ use Rattle.adg_model.specs.declared.fault.RedoKind.TheVariants.{Frame, BadVector
 use Rattle.adg_model.specs.declared.fault.RedoFault.{RedoFault}
 use Rattle.adg_model.specs.Spelling.{IsVector}
 use Rattle.adg_model.specs.Records.{thread_text, HasBadRecord}
-use Rattle.adg_model.specs.Log.{merged_log, ReceivedFrom}
+use Rattle.adg_model.specs.Log.{merged_log, numbered, ReceivedFrom}
 use Rattle.adg_model.specs.Database.{Database, Table, after, no_database, database, place, has_change}
 
 -- a check that has to hold, and what is checked after it
@@ -80,6 +80,19 @@ SoundFrom db (e ∷ es) = IsVector 1 e.vector × (refusal db e.vector ≡ None) 
 
 abbrev pub IsSound : List LogEntry → Type 0
 IsSound log = SoundFrom no_database log
+
+-- SCNs that do not fall, from one on, none above another
+abbrev pub ScnsWithin : ℕ → ℕ → List LogEntry → Type 0
+ScnsWithin low high [] = Unit {0}
+ScnsWithin low high (e ∷ es) = (low ≤ e.scn) × (e.scn ≤ high) × ScnsWithin e.scn high es
+
+-- entries that continue a log with one frontier to a later one: the log with them is sound, their
+-- positions run on, and their SCNs are above the one and at most the other
+pub record IsContinuation (log : List LogEntry) (old : ℕ) (entries : List LogEntry) (new : ℕ) : Type 0 where
+  pub sound : IsSound (log ++ entries)
+  pub places : numbered (length log) entries ≡ entries
+  pub scns : ScnsWithin (old + 1) new entries
+  pub forward : old ≤ new
 
 -- the first entry of a log that fails a check, and the first check that it fails
 pub record IsFirstUnsound (log : List LogEntry) (entry : LogEntry) (check : CheckKind) : Type 0 where

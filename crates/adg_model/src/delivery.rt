@@ -1,7 +1,9 @@
 use adg_base::command::CommandList;
-use adg_base::list::{Bytes, List};
+use adg_base::list::{Bytes, Duplicate, List};
 use adg_base::log::EntryList;
+use adg_base::memory::Memory;
 use adg_base::number::Scn;
+use std::alloc::Global;
 
 /// Redo bytes of a thread as one frame of the feed brought them.
 #[derive(Debug, Drop)]
@@ -29,4 +31,41 @@ pub struct CheckedDelivery {
     pub frontier: Scn,
     pub commands: CommandList,
     pub schedule: Bytes,
+}
+
+impl Duplicate for RedoPiece {
+    fn copy(&self, alloc: Global) -> Result<RedoPiece, Memory> {
+        let bytes = self.bytes.copy(alloc)?;
+        Ok(RedoPiece {
+            thread: self.thread,
+            bytes,
+        })
+    }
+}
+
+impl Duplicate for RawDelivery {
+    fn copy(&self, alloc: Global) -> Result<RawDelivery, Memory> {
+        let pieces = self.pieces.copy(alloc)?;
+        let commands = self.commands.copy(alloc)?;
+        let schedule = self.schedule.copy(alloc)?;
+        Ok(RawDelivery {
+            pieces,
+            commands,
+            schedule,
+        })
+    }
+}
+
+impl Duplicate for CheckedDelivery {
+    fn copy(&self, alloc: Global) -> Result<CheckedDelivery, Memory> {
+        let entries = self.entries.copy(alloc)?;
+        let commands = self.commands.copy(alloc)?;
+        let schedule = self.schedule.copy(alloc)?;
+        Ok(CheckedDelivery {
+            entries,
+            frontier: self.frontier,
+            commands,
+            schedule,
+        })
+    }
 }
