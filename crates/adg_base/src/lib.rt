@@ -13,6 +13,8 @@ pub mod number;
 pub mod placed;
 pub mod shard;
 pub mod steps;
+#[cfg(test)]
+mod tests;
 pub mod text;
 pub mod value;
 pub mod vector;

@@ -105,7 +105,8 @@ impl<T: Copy> List<T> {
 
 impl<T: Duplicate + Drop> Duplicate for List<T> {
     fn copy(&self, alloc: Global) -> Result<List<T>, Memory> {
-        let mut copied = List::new(alloc);
+        let entries = Vec::with_capacity(alloc, self.entries.len())?;
+        let mut copied = List::from_vec(entries);
         for entry in &self.entries {
             copied.push(entry.copy(alloc)?)?;
         }

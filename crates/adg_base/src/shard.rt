@@ -1,4 +1,4 @@
-ghost use Rattle.std.specs.Prelude.{◌≡◌, ◌<◌, ◌%◌};
+ghost use Rattle.std.specs.Prelude.{◌≡◌, ◌<◌, ◌%◌, IfSome};
 ghost use Rattle.adg_base.specs.Shard.{shard_of_block, shard_of_txn, shard_of_object, shard_of_unit, shard_of_vector};
 
 use crate::number::{Obj, Txn};
@@ -53,7 +53,8 @@ pub fn worker_of(shard: u8, workers: u8) -> u8
 
 /// The shard of a vector: None exactly at the end of a thread.
 pub fn shard_of(vector: &Vector) -> Option<u8>
-    ensures { result ≡ shard_of_vector vector.now }
+    ensures value { result ≡ shard_of_vector vector.now }
+    ensures range { IfSome result (λ shard. shard < 64) }
 {
     match vector {
         Vector::Put { obj, block, .. }

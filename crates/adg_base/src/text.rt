@@ -58,6 +58,7 @@ impl Text {
         ensures text { IfOk result (λ text. text ≡ bytes.now) }
         ensures good { OnOk result (IsText bytes.now) }
         ensures bad { result ≡ Err TextRefused.BadText → IsText bytes.now → ⊥ }
+        ensures refused { (IsText bytes.now → ⊥) → result ≡ Err TextRefused.BadText }
     {
         if !Text::is_text(bytes) {
             return Err(TextRefused::BadText);
