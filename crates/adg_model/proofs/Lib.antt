@@ -3,3 +3,6 @@ pub mod RowLaws
 pub mod TranscriptLaws
 pub mod VectorsSpelled
 pub mod DeliveryLaws
+pub mod RecordsFault
+pub mod RecordsSpelled
+pub mod RecordsSplit

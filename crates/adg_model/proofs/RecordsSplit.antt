@@ -1,0 +1,171 @@
+-- A text is the records of one list alone, and its records are those of its parts, however it is cut.
+use Rattle.std.proofs.Common.{◌≡◌, ℕ, ◌-◌, ◌<◌, ◌≤◌, true, false, List, [], ◌∷◌, ◌++◌, length, take, drop, Option, Some, None, refl, sym, ap, subst, ◌∙◌, append_assoc, arith, inl, inr}
+use Rattle.std.specs.List.{flat_map}
+use Rattle.std.specs.Prelude.{if◌then◌else◌, ◌==◌, nat_le, not, ◌||◌, ◌^◌}
+use Rattle.std.specs.Int.{w16, w64, from_be_bytes}
+use Rattle.std.proofs.lemmas.Bool.{cases_lt, cases_Bool}
+use Rattle.std.proofs.lemmas.List.{take-append-le, drop-append-le, length-append, length-drop}
+use Rattle.std.proofs.lemmas.Grind.{flat_map-append}
+use Rattle.adg_model.specs.declared.fault.FrameKind.{FrameKind}
+use Rattle.adg_model.specs.declared.fault.FrameKind.TheVariants.{BadTrailer, ScnRange, ScnOrder}
+use Rattle.adg_model.specs.Records.{Raw, raw_bytes, IsRaw, Mark, mark_of, mark_after, AreRaws, IsPart, stated_len, stated_scn, whole_fault, record_fault, SplitsFrom, FailsFrom}
+use Rattle.adg_model.proofs.RecordsFault.{trailer_at, fault_after_end, fault_nothing, fault_begun, fault_length, fault_part, fault_whole}
+use Rattle.adg_model.proofs.RecordsSpelled.{raw_bytes-apart, raw-no_part, raw-no_fault}
+
+-- ---- one list of records alone
+
+-- no record that may follow begins here
+abbrev pub NoRecord : Mark → List ℕ → Type 0
+NoRecord mark text = (r : Raw) (rest : List ℕ) → IsRaw r → mark.ended ≡ false → mark.scn < r.scn → text ≡ raw_bytes r ++ rest → ⊥
+
+pub NoRecord-in_part : (mark : Mark) (text : List ℕ) → IsPart text → NoRecord mark text
+NoRecord-in_part mark text part r rest good ended rises e = raw-no_part r rest good (subst IsPart e part)
+
+pub NoRecord-at_fault : (mark : Mark) (text : List ℕ) (kind : FrameKind) → record_fault mark text ≡ Some kind → NoRecord mark text
+NoRecord-at_fault mark text kind shown r rest good ended rises e =
+    let none : record_fault mark text ≡ None = ap (record_fault mark) e ∙ raw-no_fault mark r rest good ended rises in
+    absurd cc
+
+one_list : (mark : Mark) (rs ss : List Raw) (x y : List ℕ) → AreRaws mark rs → AreRaws mark ss → NoRecord (mark_after mark rs) x → NoRecord (mark_after mark ss) y → flat_map raw_bytes rs ++ x ≡ flat_map raw_bytes ss ++ y → (rs ≡ ss) × (x ≡ y)
+one_list mark [] [] x y rs_follow ss_follow no_x no_y e = (refl, e)
+one_list mark [] (s ∷ ss) x y rs_follow ss_follow no_x no_y e =
+    absurd (no_x s (flat_map raw_bytes ss ++ y) ss_follow.0 ss_follow.1 ss_follow.2 (e ∙ append_assoc (raw_bytes s) (flat_map raw_bytes ss) y))
+one_list mark (r ∷ rs) [] x y rs_follow ss_follow no_x no_y e =
+    absurd (no_y r (flat_map raw_bytes rs ++ x) rs_follow.0 rs_follow.1 rs_follow.2 (sym e ∙ append_assoc (raw_bytes r) (flat_map raw_bytes rs) x))
+one_list mark (r ∷ rs) (s ∷ ss) x y rs_follow ss_follow no_x no_y e =
+    let same : raw_bytes r ++ (flat_map raw_bytes rs ++ x) ≡ raw_bytes s ++ (flat_map raw_bytes ss ++ y) =
+    sym (append_assoc (raw_bytes r) (flat_map raw_bytes rs) x) ∙ e ∙ append_assoc (raw_bytes s) (flat_map raw_bytes ss) y in
+    let first = raw_bytes-apart r s (flat_map raw_bytes rs ++ x) (flat_map raw_bytes ss ++ y) rs_follow.0 ss_follow.0 same in
+    let back : s ≡ r = sym first.0 in
+    let later = one_list (mark_of r) rs ss x y rs_follow.3 (subst (λ (t : Raw). AreRaws (mark_of t) ss) back ss_follow.3) no_x (subst (λ (t : Raw). NoRecord (mark_after (mark_of t) ss) y) back no_y) first.1 in
+    (ap (λ (t : Raw). t ∷ rs) first.0 ∙ ap (λ (ts : List Raw). s ∷ ts) later.0, later.1)
+
+-- the records and the rest of a text are its only ones
+pub SplitsFrom-unique : (mark : Mark) (text : List ℕ) (rs ss : List Raw) (x y : List ℕ) → SplitsFrom mark text rs x → SplitsFrom mark text ss y → (rs ≡ ss) × (x ≡ y)
+SplitsFrom-unique mark text rs ss x y p q =
+    one_list mark rs ss x y p.follow q.follow (NoRecord-in_part (mark_after mark rs) x p.part) (NoRecord-in_part (mark_after mark ss) y q.part) (sym p.spelled ∙ q.spelled)
+
+-- the fault of a text and the records before it are its only ones
+pub FailsFrom-unique : (mark : Mark) (text : List ℕ) (rs ss : List Raw) (kind other : FrameKind) → FailsFrom mark text rs kind → FailsFrom mark text ss other → (rs ≡ ss) × (kind ≡ other)
+FailsFrom-unique mark text rs ss kind other p q =
+    let one = one_list mark rs ss p.rest q.rest p.follow q.follow (NoRecord-at_fault (mark_after mark rs) p.rest kind p.shown) (NoRecord-at_fault (mark_after mark ss) q.rest other q.shown) (sym p.spelled ∙ q.spelled) in
+    let same : record_fault (mark_after mark rs) p.rest ≡ record_fault (mark_after mark ss) q.rest =
+    ap (λ (ts : List Raw). record_fault (mark_after mark ts) p.rest) one.0 ∙ ap (record_fault (mark_after mark ss)) one.1 in
+    let both : Some kind ≡ Some other = sym p.shown ∙ same ∙ q.shown in
+    (one.0, cc)
+
+-- a text has no fault, or has one
+pub SplitsFrom-not_fails : (mark : Mark) (text : List ℕ) (rs ss : List Raw) (x : List ℕ) (kind : FrameKind) → SplitsFrom mark text rs x → FailsFrom mark text ss kind → ⊥
+SplitsFrom-not_fails mark text rs ss x kind p q =
+    let one = one_list mark rs ss x q.rest p.follow q.follow (NoRecord-in_part (mark_after mark rs) x p.part) (NoRecord-at_fault (mark_after mark ss) q.rest kind q.shown) (sym p.spelled ∙ q.spelled) in
+    let same : record_fault (mark_after mark rs) x ≡ record_fault (mark_after mark ss) q.rest =
+    ap (λ (ts : List Raw). record_fault (mark_after mark ts) x) one.0 ∙ ap (record_fault (mark_after mark ss)) one.1 in
+    let both : None ≡ Some kind = sym p.good ∙ same ∙ q.shown in
+    absurd cc
+
+-- ---- a fault stays, whatever comes behind it
+
+-- the answer on a whole record by what it reads there
+abbrev fault_by : ℕ → ℕ → ℕ → ℕ → Option FrameKind
+fault_by last trailer scn len =
+    if not (trailer == len) then Some BadTrailer
+    else if (scn == 0) || nat_le (2 ^ 48) scn then Some ScnRange
+    else if nat_le scn last then Some ScnOrder
+    else None
+
+stated_len-append : (text more : List ℕ) → 2 ≤ length text → stated_len (text ++ more) ≡ stated_len text
+stated_len-append text more some = ap (λ (t : List ℕ). from_be_bytes w16 t) (take-append-le 2 text more some)
+
+whole_fault-append : (last : ℕ) (text more : List ℕ) (len : ℕ) → 13 ≤ len → len ≤ length text → whole_fault last (text ++ more) len ≡ whole_fault last text len
+whole_fault-append last text more len long whole =
+    let back : drop (len - 2) (text ++ more) ≡ drop (len - 2) text ++ more = drop-append-le (len - 2) text more (omega arith) in
+    let trailer : trailer_at (text ++ more) len ≡ trailer_at text len =
+    ap (λ (t : List ℕ). from_be_bytes w16 (take 2 t)) back ∙ ap (λ (t : List ℕ). from_be_bytes w16 t) (take-append-le 2 (drop (len - 2) text) more (omega (arith, length-drop (len - 2) text))) in
+    let inner : drop 2 (text ++ more) ≡ drop 2 text ++ more = drop-append-le 2 text more (omega arith) in
+    let scn : stated_scn (text ++ more) ≡ stated_scn text =
+    ap (λ (t : List ℕ). from_be_bytes w64 (take 8 t)) inner ∙ ap (λ (t : List ℕ). from_be_bytes w64 t) (take-append-le 8 (drop 2 text) more (omega (arith, length-drop 2 text))) in
+    ap (λ (n : ℕ). fault_by last n (stated_scn (text ++ more)) len) trailer ∙ ap (λ (n : ℕ). fault_by last (trailer_at text len) n len) scn
+
+abbrev FaultStays : Mark → List ℕ → List ℕ → FrameKind → Type 0
+FaultStays mark text more kind = record_fault mark text ≡ Some kind → record_fault mark (text ++ more) ≡ Some kind
+
+stays_whole : (mark : Mark) (text more : List ℕ) (kind : FrameKind) → mark.ended ≡ false → 13 ≤ stated_len text → stated_len text ≤ length text → FaultStays mark text more kind
+stays_whole mark text more kind ended long whole shown =
+    let len = stated_len-append text more (omega arith) in
+    let longer : stated_len text ≤ length (text ++ more) = omega (arith, length-append text more) in
+    fault_whole mark (text ++ more) ended (omega (arith, len)) (omega (arith, len))
+    ∙ ap (λ (n : ℕ). whole_fault mark.scn (text ++ more) n) len
+    ∙ whole_fault-append mark.scn text more (stated_len text) long whole
+    ∙ sym (fault_whole mark text ended long whole)
+    ∙ shown
+
+stays_open : (mark : Mark) (text more : List ℕ) (kind : FrameKind) → mark.ended ≡ false → FaultStays mark text more kind
+stays_open mark text more kind ended shown =
+    elim (cases_lt (length text) 2) [
+      | inl few ↦ (let none = fault_begun mark text ended few in absurd cc)
+      | inr some ↦ elim (cases_lt (stated_len text) 13) [
+        | inl short ↦ (fault_length mark (text ++ more) ended (omega (arith, length-append text more)) (omega (arith, stated_len-append text more some))
+            ∙ sym (fault_length mark text ended some short) ∙ shown)
+        | inr long ↦ elim (cases_lt (length text) (stated_len text)) [
+          | inl part ↦ (let none = fault_part mark text ended some long part in absurd cc)
+          | inr whole ↦ stays_whole mark text more kind ended long whole shown
+        ]
+      ]
+    ]
+
+stays_ended : (mark : Mark) (text more : List ℕ) (kind : FrameKind) → mark.ended ≡ true → FaultStays mark text more kind
+stays_ended mark text more kind ended shown =
+    elim (cases_lt 0 (length text)) [
+      | inl some ↦ (fault_after_end mark (text ++ more) ended (omega (arith, length-append text more)) ∙ sym (fault_after_end mark text ended some) ∙ shown)
+      | inr none ↦ (let nothing = fault_nothing mark text ended (omega arith) in absurd cc)
+    ]
+
+pub record_fault-append : (mark : Mark) (text more : List ℕ) (kind : FrameKind) → record_fault mark text ≡ Some kind → record_fault mark (text ++ more) ≡ Some kind
+record_fault-append mark text more kind =
+    elim (cases_Bool mark.ended) [
+      | inl ended ↦ stays_ended mark text more kind ended
+      | inr ended ↦ stays_open mark text more kind ended
+    ]
+
+-- ---- one part after another
+
+pub mark_after-append : (mark : Mark) (rs ss : List Raw) → mark_after mark (rs ++ ss) ≡ mark_after (mark_after mark rs) ss
+mark_after-append mark [] ss = refl
+mark_after-append mark (r ∷ rs) ss = mark_after-append (mark_of r) rs ss
+
+pub AreRaws-append : (mark : Mark) (rs ss : List Raw) → AreRaws mark rs → AreRaws (mark_after mark rs) ss → AreRaws mark (rs ++ ss)
+AreRaws-append mark [] ss p q = q
+AreRaws-append mark (r ∷ rs) ss p q = (p.0, p.1, p.2, AreRaws-append (mark_of r) rs ss p.3 q)
+
+pub spelled-append : (text more : List ℕ) (rs ss : List Raw) (rest last : List ℕ) → text ≡ flat_map raw_bytes rs ++ rest → rest ++ more ≡ flat_map raw_bytes ss ++ last → text ++ more ≡ flat_map raw_bytes (rs ++ ss) ++ last
+spelled-append text more rs ss rest last p q =
+    ap (λ (t : List ℕ). t ++ more) p
+    ∙ append_assoc (flat_map raw_bytes rs) rest more
+    ∙ ap (λ (t : List ℕ). flat_map raw_bytes rs ++ t) q
+    ∙ sym (append_assoc (flat_map raw_bytes rs) (flat_map raw_bytes ss) last)
+    ∙ ap (λ (t : List ℕ). t ++ last) (sym (flat_map-append raw_bytes rs ss))
+
+pub SplitsFrom-then : (mark : Mark) (text more : List ℕ) (rs ss : List Raw) (rest last : List ℕ) → SplitsFrom mark text rs rest → SplitsFrom (mark_after mark rs) (rest ++ more) ss last → SplitsFrom mark (text ++ more) (rs ++ ss) last
+SplitsFrom-then mark text more rs ss rest last p q = record {
+  spelled = spelled-append text more rs ss rest last p.spelled q.spelled;
+  follow = AreRaws-append mark rs ss p.follow q.follow;
+  part = q.part;
+  good = ap (λ (m : Mark). record_fault m last) (mark_after-append mark rs ss) ∙ q.good;
+}
+
+pub SplitsFrom-then_fails : (mark : Mark) (text more : List ℕ) (rs ss : List Raw) (rest : List ℕ) (kind : FrameKind) → SplitsFrom mark text rs rest → FailsFrom (mark_after mark rs) (rest ++ more) ss kind → FailsFrom mark (text ++ more) (rs ++ ss) kind
+SplitsFrom-then_fails mark text more rs ss rest kind p q = record {
+  rest = q.rest;
+  spelled = spelled-append text more rs ss rest q.rest p.spelled q.spelled;
+  follow = AreRaws-append mark rs ss p.follow q.follow;
+  shown = ap (λ (m : Mark). record_fault m q.rest) (mark_after-append mark rs ss) ∙ q.shown;
+}
+
+-- what fails goes on to fail, at the same record and for the same fault
+pub FailsFrom-append : (mark : Mark) (text more : List ℕ) (rs : List Raw) (kind : FrameKind) → FailsFrom mark text rs kind → FailsFrom mark (text ++ more) rs kind
+FailsFrom-append mark text more rs kind p = record {
+  rest = p.rest ++ more;
+  spelled = ap (λ (t : List ℕ). t ++ more) p.spelled ∙ append_assoc (flat_map raw_bytes rs) p.rest more;
+  follow = p.follow;
+  shown = record_fault-append (mark_after mark rs) p.rest more kind p.shown;
+}

@@ -1,0 +1,16 @@
+//! The records of a redo thread, put together from its bytes however they are cut, with their
+//! vectors still as bytes.
+#![tactic(auto)]
+
+mod assembler;
+mod front;
+mod number;
+mod reading;
+mod record;
+
+pub use adg_model::fault::FrameKind;
+pub use assembler::Assembler;
+pub use record::{FrameRefused, RawRecord};
+
+#[cfg(test)]
+mod tests;
