@@ -8,9 +8,9 @@ use Rattle.std.proofs.lemmas.Nat.{from_be_bytes-to_be_bytes_2}
 use Rattle.adg_base.specs.declared.vector.RedoRecord.{RedoRecord}
 use Rattle.adg_model.specs.declared.delivery.RawDelivery.{RawDelivery}
 use Rattle.adg_model.specs.Spelling.{AreVectors}
-use Rattle.adg_model.specs.Records.{Raw, raw_len, raw_bytes, IsRaw, Mark, first_mark, mark_of, AreRaws, stated_len, IsPart, raw_of, bytes_for, thread_text, AreReadable, HasRecords}
+use Rattle.adg_model.specs.Records.{Raw, raw_len, raw_bytes, IsRaw, Mark, first_mark, mark_of, AreRaws, stated_len, IsPart, raw_of, bytes_for, thread_text, AreReadable, HasRecords, record_bytes}
 use Rattle.adg_model.specs.Log.{ReceivedFrom}
-use Rattle.adg_model.specs.Laws.{Continues, LogGrowsByDelivery, RecordsAreDetermined}
+use Rattle.adg_model.specs.Laws.{Continues, LogGrowsByDelivery, NoPrefix, RecordsAreDetermined}
 use Rattle.adg_model.proofs.VectorsSpelled.{fronts, apart_16, apart_64, vectors_bytes-same}
 use Rattle.adg_model.proofs.LogLaws.{log_grows}
 
@@ -113,3 +113,8 @@ same_received thread ds (o ∷ os) (r ∷ rs) n h k =
 
 pub records_are_determined : RecordsAreDetermined
 records_are_determined ds a b n h k = same_received 1 ds a b n h k
+
+pub no_prefix : NoPrefix
+no_prefix a b rest h k e =
+    let p = raw_apart (raw_of a) (raw_of b) rest [] h.raw k.raw (e ∙ sym (append-nil (record_bytes b))) in
+    (same_record a b h.vectors k.vectors p.0, p.1)

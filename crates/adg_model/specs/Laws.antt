@@ -9,7 +9,7 @@ use Rattle.adg_base.specs.declared.vector.RedoRecord.{RedoRecord}
 use Rattle.adg_base.specs.declared.log.LogEntry.{LogEntry}
 use Rattle.adg_base.specs.declared.answer.Lines.{Lines}
 use Rattle.adg_model.specs.declared.delivery.RawDelivery.{RawDelivery}
-use Rattle.adg_model.specs.Records.{first_mark, raw_of, AreRaws}
+use Rattle.adg_model.specs.Records.{first_mark, raw_of, AreRaws, IsRecord, record_bytes}
 use Rattle.adg_model.specs.Log.{frontier, entries_from, comes_before, upto, merged_log, ReceivedFrom}
 use Rattle.adg_model.specs.Database.{rows_at, table_at}
 use Rattle.adg_model.specs.Transcript.{scn_of, replies_to, LegalFrom}
@@ -128,3 +128,9 @@ ScnsDoNotFall =
     (threads sessions floor : ℕ) (earlier deliveries : List RawDelivery) (lines : List Lines)
     → LegalFrom threads sessions earlier floor deliveries lines → (session : ℕ)
     → IsNonDecreasing (floor ∷ scns_read session lines) × StayBelow threads session earlier deliveries lines
+
+-- No record's spelling begins another's: where one is a beginning of the other, they are the same record
+-- and nothing is left over.
+abbrev pub NoPrefix : Type 0
+NoPrefix =
+    (a b : RedoRecord) (rest : List ℕ) → IsRecord a → IsRecord b → record_bytes a ++ rest ≡ record_bytes b → (a ≡ b) × (rest ≡ [])

@@ -1,7 +1,7 @@
 //! Laws of the definitions in `specs/`, each the promise of a function that does nothing: evidence
 //! that the definitions say what they mean.
 
-ghost use Rattle.adg_model.specs.Laws.{LogGrows, LogGrowsByDelivery, LogIsOrdered, RecordsAreDetermined, RowsStopAtScn, ScnsDoNotFall, UncommittedChangeNothing};
+ghost use Rattle.adg_model.specs.Laws.{LogGrows, LogGrowsByDelivery, LogIsOrdered, NoPrefix, RecordsAreDetermined, RowsStopAtScn, ScnsDoNotFall, UncommittedChangeNothing};
 
 /// As threads get more records the merged log only grows, at SCNs above the frontier that was, and
 /// the frontier does not fall.
@@ -38,4 +38,9 @@ pub fn uncommitted_change_nothing()
 /// is above the frontier.
 pub fn scns_do_not_fall()
     ensures { ScnsDoNotFall }
+{}
+
+/// No spelling of a record is the beginning of another record's.
+pub fn no_prefix()
+    ensures { NoPrefix }
 {}
