@@ -6,3 +6,4 @@ pub mod DeliveryLaws
 pub mod RecordsFault
 pub mod RecordsSpelled
 pub mod RecordsSplit
+pub mod CommandLaws

@@ -7,11 +7,13 @@ use Rattle.adg_base.specs.declared.vector.Vector.{Vector}
 use Rattle.adg_base.specs.declared.vector.Vector.TheVariants.{Begin, Put, Delete, Undo, Commit, Abort, Create, DropObject, AddColumn, NoInMemory, EndThread}
 use Rattle.adg_base.specs.declared.vector.RedoRecord.{RedoRecord}
 use Rattle.adg_base.specs.declared.log.LogEntry.{LogEntry}
+use Rattle.adg_base.specs.declared.command.Command.{Command}
 use Rattle.adg_base.specs.declared.answer.Lines.{Lines}
 use Rattle.adg_model.specs.declared.delivery.RawDelivery.{RawDelivery}
 use Rattle.adg_model.specs.Records.{first_mark, raw_of, AreRaws, IsRecord, record_bytes}
 use Rattle.adg_model.specs.Log.{frontier, entries_from, comes_before, upto, merged_log, ReceivedFrom}
 use Rattle.adg_model.specs.Database.{rows_at, table_at}
+use Rattle.adg_model.specs.Command.{IsCommand, command_bytes}
 use Rattle.adg_model.specs.Transcript.{scn_of, replies_to, LegalFrom}
 
 -- a thread has the records that it had, and more after them, and they may all follow each other
@@ -134,3 +136,7 @@ ScnsDoNotFall =
 abbrev pub NoPrefix : Type 0
 NoPrefix =
     (a b : RedoRecord) (rest : List ℕ) → IsRecord a → IsRecord b → record_bytes a ++ rest ≡ record_bytes b → (a ≡ b) × (rest ≡ [])
+
+-- A text spells one command and no other.
+abbrev pub OneCommand : Type 0
+OneCommand = (a b : Command) → IsCommand a → IsCommand b → command_bytes a ≡ command_bytes b → a ≡ b

@@ -1,7 +1,7 @@
 //! Laws of the definitions in `specs/`, each the promise of a function that does nothing: evidence
 //! that the definitions say what they mean.
 
-ghost use Rattle.adg_model.specs.Laws.{LogGrows, LogGrowsByDelivery, LogIsOrdered, NoPrefix, RecordsAreDetermined, RowsStopAtScn, ScnsDoNotFall, UncommittedChangeNothing};
+ghost use Rattle.adg_model.specs.Laws.{LogGrows, LogGrowsByDelivery, LogIsOrdered, NoPrefix, OneCommand, RecordsAreDetermined, RowsStopAtScn, ScnsDoNotFall, UncommittedChangeNothing};
 
 /// As threads get more records the merged log only grows, at SCNs above the frontier that was, and
 /// the frontier does not fall.
@@ -43,4 +43,9 @@ pub fn scns_do_not_fall()
 /// No spelling of a record is the beginning of another record's.
 pub fn no_prefix()
     ensures { NoPrefix }
+{}
+
+/// A text spells at most one command.
+pub fn one_command()
+    ensures { OneCommand }
 {}
