@@ -7,3 +7,4 @@ pub mod RecordsFault
 pub mod RecordsSpelled
 pub mod RecordsSplit
 pub mod CommandLaws
+pub mod ReplyLaws

@@ -1,5 +1,5 @@
 -- Laws of the definitions: what holds of every log and every transcript, as evidence that the definitions say what they mean.
-use Rattle.std.specs.Prelude.{◌≡◌, ℕ, ◌<◌, ◌≤◌, Bool, true, false, not, ◌==◌, List, [], ◌∷◌, ◌++◌, length, map, filter}
+use Rattle.std.specs.Prelude.{◌≡◌, ℕ, ◌+◌, ◌<◌, ◌≤◌, Bool, true, false, not, ◌==◌, List, [], ◌∷◌, ◌++◌, length, map, filter}
 use Rattle.std.specs.List.{flat_map, filter_map, list_any, range_with_len, AllByRecursion, AllZip, AllPairs}
 use Rattle.std.specs.List.Sorted.{IsNonDecreasing, IsPermutation}
 use Rattle.adg_base.specs.Address.{Place}
@@ -9,11 +9,14 @@ use Rattle.adg_base.specs.declared.vector.RedoRecord.{RedoRecord}
 use Rattle.adg_base.specs.declared.log.LogEntry.{LogEntry}
 use Rattle.adg_base.specs.declared.command.Command.{Command}
 use Rattle.adg_base.specs.declared.answer.Lines.{Lines}
+use Rattle.adg_base.specs.declared.answer.Reply.{Reply}
+use Rattle.adg_base.specs.declared.answer.Reply.TheVariants.{Rows, Populated}
 use Rattle.adg_model.specs.declared.delivery.RawDelivery.{RawDelivery}
 use Rattle.adg_model.specs.Records.{first_mark, raw_of, AreRaws, IsRecord, record_bytes}
 use Rattle.adg_model.specs.Log.{frontier, entries_from, comes_before, upto, merged_log, ReceivedFrom}
 use Rattle.adg_model.specs.Database.{rows_at, table_at}
 use Rattle.adg_model.specs.Command.{IsCommand, command_bytes}
+use Rattle.adg_model.specs.Reply.{IsReply}
 use Rattle.adg_model.specs.Transcript.{scn_of, replies_to, LegalFrom}
 
 -- a thread has the records that it had, and more after them, and they may all follow each other
@@ -140,3 +143,17 @@ NoPrefix =
 -- A text spells one command and no other.
 abbrev pub OneCommand : Type 0
 OneCommand = (a b : Command) → IsCommand a → IsCommand b → command_bytes a ≡ command_bytes b → a ≡ b
+
+-- Two replies say the same but for their counts. Two of rows may differ in how many of the rows came from
+-- units and how many from blocks, while those are as many together. Two of a population may differ in the
+-- units. Any other two are one reply.
+abbrev pub SameButCounts : Reply → Reply → Type 0
+SameButCounts (Rows scn answer col row) (Rows scn' answer' col' row') = (scn ≡ scn') × (answer ≡ answer') × (col + row ≡ col' + row')
+SameButCounts (Populated scn units) (Populated scn' units') = scn ≡ scn'
+SameButCounts r s = r ≡ s
+
+-- A text has one reply at an SCN, its counts aside.
+abbrev pub OneReply : Type 0
+OneReply =
+    (log : List LogEntry) (frontier : ℕ) (text : List ℕ) (r s : Reply)
+    → IsReply log frontier text r → IsReply log frontier text s → scn_of r ≡ scn_of s → SameButCounts r s

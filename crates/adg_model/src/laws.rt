@@ -1,7 +1,7 @@
 //! Laws of the definitions in `specs/`, each the promise of a function that does nothing: evidence
 //! that the definitions say what they mean.
 
-ghost use Rattle.adg_model.specs.Laws.{LogGrows, LogGrowsByDelivery, LogIsOrdered, NoPrefix, OneCommand, RecordsAreDetermined, RowsStopAtScn, ScnsDoNotFall, UncommittedChangeNothing};
+ghost use Rattle.adg_model.specs.Laws.{LogGrows, LogGrowsByDelivery, LogIsOrdered, NoPrefix, OneCommand, OneReply, RecordsAreDetermined, RowsStopAtScn, ScnsDoNotFall, UncommittedChangeNothing};
 
 /// As threads get more records the merged log only grows, at SCNs above the frontier that was, and
 /// the frontier does not fall.
@@ -48,4 +48,9 @@ pub fn no_prefix()
 /// A text spells at most one command.
 pub fn one_command()
     ensures { OneCommand }
+{}
+
+/// A command text has one reply at an SCN, its split into units and blocks aside.
+pub fn one_reply()
+    ensures { OneReply }
 {}
