@@ -140,7 +140,7 @@ abbrev pub NoPrefix : Type 0
 NoPrefix =
     (a b : RedoRecord) (rest : List ℕ) → IsRecord a → IsRecord b → record_bytes a ++ rest ≡ record_bytes b → (a ≡ b) × (rest ≡ [])
 
--- A text spells one command and no other.
+-- A text spells at most one command.
 abbrev pub OneCommand : Type 0
 OneCommand = (a b : Command) → IsCommand a → IsCommand b → command_bytes a ≡ command_bytes b → a ≡ b
 
@@ -152,7 +152,7 @@ SameButCounts (Rows scn answer col row) (Rows scn' answer' col' row') = (scn ≡
 SameButCounts (Populated scn units) (Populated scn' units') = scn ≡ scn'
 SameButCounts r s = r ≡ s
 
--- A text has one reply at an SCN, its counts aside.
+-- A text has at most one reply at an SCN, its counts aside.
 abbrev pub OneReply : Type 0
 OneReply =
     (log : List LogEntry) (frontier : ℕ) (text : List ℕ) (r s : Reply)

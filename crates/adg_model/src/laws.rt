@@ -50,7 +50,8 @@ pub fn one_command()
     ensures { OneCommand }
 {}
 
-/// A command text has one reply at an SCN, its split into units and blocks aside.
+/// A command text has at most one reply at an SCN, the split of its rows into units and blocks and the
+/// units of a population aside.
 pub fn one_reply()
     ensures { OneReply }
 {}
