@@ -1,5 +1,5 @@
 -- Lemmas on the front of a piece that a read fills and on the bytes that it takes.
-use Rattle.std.proofs.Common.{◌≡◌, ℕ, ◌+◌, ◌-◌, ◌<◌, ◌≤◌, min, Option, List, [], ◌++◌, length, take, drop, refl, sym, ap, ◌∙◌, subst, arith, take-append-drop, length-take-le, length-drop}
+use Rattle.std.proofs.Common.{◌≡◌, ℕ, ◌+◌, ◌-◌, ◌<◌, ◌≤◌, min, Option, List, [], ◌++◌, length, take, drop, sym, ap, ◌∙◌, subst, arith, take-append-drop, length-take-le, length-drop}
 use Rattle.std.proofs.lemmas.List.{take_at, drop-drop, drop_all, take-append-le, take_rest}
 use Rattle.std.proofs.Math.Seq.{take-add, take-append-add}
 use Rattle.std.proofs.KnownBytes.{Consumes-trans, Appends-trans}
@@ -28,7 +28,7 @@ filled_on before mid after piece part k n room inside fits first second =
     let long : length (take k piece) ≡ k = length-take-le k piece inside in
     let joined : take (k + n) (put_mid k room piece part) ≡ take k piece ++ take n part =
     ap (λ m. take (m + n) (put_mid k room piece part)) (sym long) ∙ take-append-add (take k piece) (part ++ post_of k room piece) n
-        ∙ ap (λ l. take k piece ++ l) (take-append-le n part (post_of k room piece) fits) in
+    ∙ ap (λ l. take k piece ++ l) (take-append-le n part (post_of k room piece) fits) in
     subst (Consumes before after) (sym joined) (Consumes-trans before mid after _ _ first second)
 
 -- what appends the front of a piece up to k, and then n bytes of the rest, appends the front up to k + n

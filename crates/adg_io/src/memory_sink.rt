@@ -26,8 +26,14 @@ impl Model for MemSink {
 
     ghost Value = { SinkState };
 
-    ghost view = { λ s. record { held = s.bytes.items; room = s.room; most = s.most;
-        failing = s.calls.failing.items; calls = s.calls.made; faults = s.calls.faults } };
+    ghost view = { λ s. record {
+      held = s.bytes.items;
+      room = s.room;
+      most = s.most;
+      failing = s.calls.failing.items;
+      calls = s.calls.made;
+      faults = s.calls.faults;
+    } };
 
     ghost invariant = { λ s. (s.room ≤ vec_capacity s.bytes) × (vec_len s.bytes ≤ s.room)
         × (0 < s.most) };
@@ -42,8 +48,14 @@ impl MemSink {
         most: usize,
         failing: Vec<u64>,
     ) -> Result<MemSink, Memory>
-        ensures { IfOk result (λ sink. sink ≡ record { held = []; room = room;
-            most = max most 1; failing = failing.items; calls = 0; faults = 0 }) }
+        ensures { IfOk result (λ sink. sink ≡ record {
+          held = [];
+          room = room;
+          most = max most 1;
+          failing = failing.items;
+          calls = 0;
+          faults = 0;
+        }) }
     {
         let bytes = Vec::with_capacity(alloc, room)?;
         Ok(MemSink {
@@ -77,9 +89,13 @@ impl Sink for MemSink {
         ensures fails { IsErr result ↔ IsToRefuse self.old (length piece.now) }
         ensures count { IfOk result (λ n. n ≡ taken_of self.old (length piece.now)) }
         ensures ok { IfOk result (λ n. self.new ≡ record self.old {
-            held = self.old.held ++ take n piece.now; calls = one_more self.old.calls }) }
+          held = self.old.held ++ take n piece.now;
+          calls = one_more self.old.calls;
+        }) }
         ensures err { OnErr result (self.new ≡ record self.old {
-            calls = one_more self.old.calls; faults = one_more self.old.faults }) }
+          calls = one_more self.old.calls;
+          faults = one_more self.old.faults;
+        }) }
     {
         if self.calls.next_fails() {
             return Err(self.calls.fault());

@@ -1,5 +1,4 @@
-use Rattle.std.proofs.Common.{arith, rules}
-use Rattle.std.proofs.lemmas.Grind.{common_steps}
+use Rattle.std.proofs.Common.{rules}
 use Rattle.adg_io.proofs.Pieces.{filled_on}
 use Rattle.adg_io.proofs.transfer.fill.Goals as goal
 
@@ -11,4 +10,5 @@ loop-count-preserved g c =
       inside = search rules;
       bytes = filled_on _ _ _ c.loop-count.into c.read.new.into c.loop-count.count c.in-Ok.given _ was.inside read.bound.0 was.bytes read.bytes.0;
       honest = search rules;
-      empty = search rules }
+      empty = search rules;
+    }

@@ -8,7 +8,8 @@ invariant-loop-count g l = record {
   inside : l.count ≤ length l.into;
   bytes : Consumes (g.R.Source.left l.initial.source) (g.R.Source.left l.source) (take l.count l.into);
   honest : g.R.Source.faults l.source ≡ g.R.Source.faults l.initial.source;
-  empty : length l.into ≡ 0 → l.source ≡ l.initial.source }
+  empty : length l.into ≡ 0 → l.source ≡ l.initial.source;
+}
 
 -- what is missing
 abbrev pub decreases-loop-count : goal.decreases-loop-count

@@ -1,5 +1,4 @@
-use Rattle.std.proofs.Common.{arith, rules}
-use Rattle.std.proofs.lemmas.Grind.{common_steps}
+use Rattle.std.proofs.Common.{rules}
 use Rattle.adg_io.proofs.Pieces.{written_on}
 use Rattle.adg_io.proofs.transfer.write_whole.Goals as goal
 
@@ -11,4 +10,5 @@ loop-count-preserved g c =
       inside = search rules;
       bytes = written_on _ _ _ c.args.piece.now c.loop-count.count c.in-Ok.taken was.bytes written.bytes;
       honest = search rules;
-      empty = search rules }
+      empty = search rules;
+    }

@@ -8,7 +8,8 @@ invariant-loop-count g l = record {
   inside : l.count ≤ length l.piece;
   bytes : Appends (g.K.Sink.held l.initial.sink) (g.K.Sink.held l.sink) (take l.count l.piece);
   honest : g.K.Sink.faults l.sink ≡ g.K.Sink.faults l.initial.sink;
-  empty : length l.piece ≡ 0 → l.sink ≡ l.initial.sink }
+  empty : length l.piece ≡ 0 → l.sink ≡ l.initial.sink;
+}
 
 -- what is left of the piece
 abbrev pub decreases-loop-count : goal.decreases-loop-count
