@@ -1,0 +1,7 @@
+pub mod Faults
+pub mod FirstFrame
+pub mod Frames
+pub mod Items
+pub mod Stages
+pub mod Taking
+pub mod Told

@@ -1,0 +1,86 @@
+-- What the reader answers for a frame and for the frames of a delivery.
+use Rattle.std.specs.Prelude.{◌≡◌, ℕ, ◌+◌, ◌-◌, ◌<◌, List, [], ◌∷◌, ◌++◌, length, take, Option, Some, None, Result, Ok, Err}
+use Rattle.std.specs.List.{flat_map, filter_map}
+use Rattle.std.specs.Int.{w32, to_be_bytes}
+use Rattle.std.specs.Io.KnownBytes.{IsAtEnd}
+use Rattle.adg_model.specs.Feed.{Item, Standing, AreItems, IsDelivery, IsItem, IsCut, item_bytes, items_bytes, delivery_bytes, end_bytes, stop_bytes, piece_of, command_of, schedule_of, tag_of, payload_of, tag_fault, length_fault, frame_fault, most_deliveries}
+use Rattle.adg_model.specs.declared.fault.FeedKind.{FeedKind}
+use Rattle.adg_model.specs.declared.fault.FeedKind.TheVariants.{Truncated, Read, Memory}
+use Rattle.feed_frames.specs.declared.delivery.Incoming.{Incoming}
+use Rattle.feed_frames.specs.declared.delivery.Frame.{Frame}
+use Rattle.feed_frames.specs.declared.delivery.Frame.TheVariants.{Item as AnItem, End, Stop}
+use Rattle.feed_frames.specs.declared.head.Head.{Head}
+use Rattle.feed_frames.specs.declared.delivery.Ending.{Ending}
+use Rattle.feed_frames.specs.declared.delivery.Ending.TheVariants.{OfDelivery, OfFeed}
+use Rattle.feed_frames.specs.declared.fault.FeedFault.{FeedFault}
+use Rattle.feed_frames.specs.Intake.{Took, fault_byte}
+use Rattle.feed_frames.specs.Counts.{IsCountOf, standing_of, tag_byte}
+
+-- The reading of a frame stopped after these of its bytes. A check found its fault in them, and not
+-- before the last of them had come; or the input ended inside the frame; or the source failed or
+-- memory was wanting, where no check had found a fault.
+abbrev pub FrameStops : FeedKind → (List ℕ → Option FeedKind) → Option (List ℕ) → List ℕ → Type 0
+FrameStops Truncated check left bytes = (check bytes ≡ None) × IsCut bytes × IsAtEnd left
+FrameStops Read check left bytes = check bytes ≡ None
+FrameStops Memory check left bytes = check bytes ≡ None
+FrameStops kind check left bytes = (check bytes ≡ Some kind) × (check (take (length bytes - 1) bytes) ≡ None)
+
+-- the same, where those after the first few of its bytes were taken by a call
+pub record StopsAfter (front : List ℕ) (check : List ℕ → Option FeedKind) (from to : Option (List ℕ)) (before after : ℕ) (kind : FeedKind) : Type 0 where
+  pub bytes : List ℕ
+  pub took : Took from to before after bytes
+  pub stops : FrameStops kind check to (front ++ bytes)
+
+-- the tag and the length of a frame
+abbrev pub head_bytes : Head → List ℕ
+head_bytes head = tag_byte head.tag ∷ to_be_bytes w32 head.len
+
+-- a head in which no check finds a fault
+pub record IsGoodHead (st : Standing) (before : List Item) (head : Head) : Type 0 where
+  pub tag : tag_fault before (tag_byte head.tag) ≡ None
+  pub length : length_fault st before (tag_byte head.tag) head.len ≡ None
+
+-- what was read of a delivery is these items
+pub record Holds (incoming : Incoming) (items : List Item) : Type 0 where
+  pub counts : IsCountOf incoming.counts items
+  pub pieces : incoming.pieces ≡ filter_map piece_of items
+  pub commands : incoming.commands ≡ filter_map command_of items
+  pub schedule : incoming.schedule.items ≡ flat_map schedule_of items
+
+-- the payload of a frame with this head was taken, and it is an item of the delivery
+pub record TookItem (old new : Incoming) (before : List Item) (head : Head) (from to : Option (List ℕ)) (first last : ℕ) : Type 0 where
+  pub item : Item
+  pub took : Took from to first last (payload_of item)
+  pub tag : tag_of item ≡ tag_byte head.tag
+  pub whole : length (payload_of item) ≡ head.len
+  pub follows : IsItem (standing_of old.counts.progress) before item
+  pub holds : Holds new (before ++ item ∷ [])
+
+-- what is read of a frame after these items
+abbrev pub ReadsFrame : (old new : Incoming) (before : List Item) (from to : Option (List ℕ)) (first last : ℕ) → Result Frame FeedKind → Type 0
+ReadsFrame old new before from to first last (Ok AnItem) =
+    (item : Item) × Took from to first last (item_bytes item) × IsItem (standing_of old.counts.progress) before item × Holds new (before ++ item ∷ [])
+ReadsFrame old new before from to first last (Ok End) = Took from to first last end_bytes × (old.counts.progress.ends < most_deliveries) × (new ≡ old)
+ReadsFrame old new before from to first last (Ok Stop) = Took from to first last stop_bytes × (before ≡ []) × (new ≡ old)
+ReadsFrame old new before from to first last (Err kind) = StopsAfter [] (frame_fault (standing_of old.counts.progress) before) from to first last kind
+
+-- the frames of a delivery were read
+pub record ReadItems (old new : Incoming) (from to : Option (List ℕ)) (first last : ℕ) : Type 0 where
+  pub items : List Item
+  pub is_delivery : IsDelivery (standing_of old.counts.progress) items
+  pub took : Took from to first last (delivery_bytes items)
+  pub holds : Holds new items
+
+-- the reading stopped in a frame, after these items
+pub record StopsAmong (st : Standing) (from to : Option (List ℕ)) (first last : ℕ) (fault : FeedFault) : Type 0 where
+  pub before : List Item
+  pub rest : List ℕ
+  pub items : AreItems st [] before
+  pub took : Took from to first last (items_bytes before ++ rest)
+  pub stops : FrameStops fault.kind (frame_fault st before) to rest
+  pub byte : fault.byte ≡ fault_byte fault.kind (first + length (items_bytes before)) last
+
+abbrev pub ReadsFrames : (old new : Incoming) (from to : Option (List ℕ)) (first last : ℕ) → Result Ending FeedFault → Type 0
+ReadsFrames old new from to first last (Ok OfDelivery) = ReadItems old new from to first last
+ReadsFrames old new from to first last (Ok OfFeed) = Took from to first last stop_bytes
+ReadsFrames old new from to first last (Err fault) = StopsAmong (standing_of old.counts.progress) from to first last fault

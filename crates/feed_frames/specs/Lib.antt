@@ -1,0 +1,6 @@
+pub mod Answers
+pub mod Counts
+pub mod Frames
+pub mod Intake
+pub mod Opening
+pub mod State
