@@ -8,3 +8,4 @@ pub mod RecordsSpelled
 pub mod RecordsSplit
 pub mod CommandLaws
 pub mod ReplyLaws
+pub mod FeedLaws
