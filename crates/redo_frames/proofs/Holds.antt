@@ -1,5 +1,5 @@
 -- What an assembler holds, before any bytes, after a piece, and after more bytes behind a fault.
-use Rattle.std.proofs.Common.{◌≡◌, ℕ, ◌+◌, ◌<◌, ◌≤◌, Bool, false, List, [], ◌∷◌, ◌++◌, length, Option, Some, None, refl, sym, ap, subst, ◌∙◌, append_assoc, arith, inl, inr}
+use Rattle.std.proofs.Common.{◌≡◌, ℕ, List, [], ◌++◌, Option, Some, None, refl, sym, ap, subst, ◌∙◌, append_assoc, arith, inl}
 use Rattle.std.specs.Prelude.{IsSome}
 use Rattle.adg_model.specs.declared.fault.FrameKind.{FrameKind}
 use Rattle.adg_model.specs.Records.{Raw, Mark, mark_after, first_mark, SplitsFrom}
@@ -36,11 +36,11 @@ pub Holds-gains : (a b : Assembly) (text piece : List ℕ) (taken : List Raw) �
 Holds-gains a b text piece taken open_thread count gains h =
     let records = taken ++ a.held in
     let before : SplitsFrom first_mark text records a.rest =
-          subst (λ (refused : Option FrameKind). Stands refused first_mark text records a.rest) open_thread h.stands in
+    subst (λ (refused : Option FrameKind). Stands refused first_mark text records a.rest) open_thread h.stands in
     let later : Stands b.refused (mark_after first_mark records) (a.rest ++ piece) gains.more b.rest =
-          subst (λ (m : Mark). Stands b.refused m (a.rest ++ piece) gains.more b.rest) h.mark gains.stands in
+    subst (λ (m : Mark). Stands b.refused m (a.rest ++ piece) gains.more b.rest) h.mark gains.stands in
     let all : records ++ gains.more ≡ taken ++ b.held =
-          append_assoc taken a.held gains.more ∙ ap (λ (l : List Raw). taken ++ l) (sym gains.added) in
+    append_assoc taken a.held gains.more ∙ ap (λ (l : List Raw). taken ++ l) (sym gains.added) in
     record {
       count = h.count ∙ sym count;
       mark = gains.mark ∙ ap (λ (m : Mark). mark_after m gains.more) h.mark ∙ sym (mark_after-append first_mark records gains.more) ∙ ap (mark_after first_mark) all;

@@ -1,11 +1,11 @@
 -- Reading on: one more record, the unfinished record that a piece ends, and the rest of the piece.
-use Rattle.std.proofs.Common.{◌≡◌, ℕ, ◌+◌, ◌-◌, ◌<◌, ◌≤◌, Bool, false, List, [], ◌∷◌, ◌++◌, length, take, drop, max, Option, Some, None, refl, sym, ap, subst, ◌∙◌, append_assoc, arith, inl, inr}
+use Rattle.std.proofs.Common.{◌≡◌, ℕ, ◌+◌, ◌-◌, ◌≤◌, List, [], ◌∷◌, ◌++◌, length, take, drop, max, Option, Some, None, refl, sym, ap, subst, ◌∙◌, append_assoc, arith, inl, inr}
 use Rattle.std.specs.List.{flat_map}
 use Rattle.std.proofs.Math.Seq.{take-add}
 use Rattle.std.proofs.lemmas.List.{append-nil, take_at, take-append-drop, length-append, length-take, length-drop, take_all, flat_map_more}
 use Rattle.std.proofs.lemmas.Bool.{cases_Bool}
 use Rattle.adg_model.specs.declared.fault.FrameKind.{FrameKind}
-use Rattle.adg_model.specs.Records.{Raw, raw_bytes, Mark, mark_of, mark_after, AreRaws, stated_len, record_fault, SplitsFrom, FailsFrom}
+use Rattle.adg_model.specs.Records.{Raw, raw_bytes, Mark, mark_of, mark_after, AreRaws, stated_len, record_fault, SplitsFrom}
 use Rattle.adg_model.proofs.RecordsSpelled.{length-raw_bytes}
 use Rattle.adg_model.proofs.RecordsFault.{fault_nothing, fault_begun}
 use Rattle.adg_model.proofs.RecordsSplit.{mark_after-append, AreRaws-append, record_fault-append, SplitsFrom-then, SplitsFrom-then_fails}
@@ -22,7 +22,7 @@ pub Reads-more : (before after : List Raw) (from to : Mark) (text rest : List �
 Reads-more before after from to text rest h p =
     let r = raw_at rest in
     let rises : AreRaws (mark_after from p.more) (r ∷ []) =
-          subst (λ (m : Mark). AreRaws m (r ∷ [])) p.mark h.follows in
+    subst (λ (m : Mark). AreRaws m (r ∷ [])) p.mark h.follows in
     record {
       more = p.more ++ r ∷ [];
       added = ap (λ (l : List Raw). l ++ r ∷ []) p.added ∙ append_assoc before p.more (r ∷ []);
@@ -38,14 +38,20 @@ from_place used bytes = take (length bytes - used) (drop used bytes)
 pub from_place-is : (used : ℕ) (bytes : List ℕ) → from_place used bytes ≡ drop used bytes
 from_place-is used bytes = take_all (length bytes - used) (drop used bytes) (omega (arith, length-drop used bytes))
 
-pub Reads-next : (before after : List Raw) (from to : Mark) (bytes : List ℕ) (used len : ℕ) → used ≤ length bytes → Begins to (from_place used bytes) → len ≡ stated_len (from_place used bytes) → Reads before after from to (take used bytes) → (used + len ≤ length bytes) × Reads before (after ++ raw_at (from_place used bytes) ∷ []) from (mark_of (raw_at (from_place used bytes))) (take (used + len) bytes)
-Reads-next before after from to bytes used len inside h len_is p =
+-- one record more, from its bytes to the place behind them
+pub Reads-next : (before after held : List Raw) (from to mark : Mark) (frame : Raw) (bytes : List ℕ) (used len : ℕ) → used ≤ length bytes → Begins to (from_place used bytes) → len ≡ stated_len (from_place used bytes) → frame ≡ raw_at (from_place used bytes) → held ≡ after ++ frame ∷ [] → mark ≡ mark_of frame → Reads before after from to (take used bytes) → (used + len ≤ length bytes) × Reads before held from mark (take (used + len) bytes)
+Reads-next before after held from to mark frame bytes used len inside h len_is frame_is held_is mark_is p =
     let rest = from_place used bytes in
-    let rest_is = from_place-is used bytes in
     let longer : take used bytes ++ take (stated_len rest) rest ≡ take (used + len) bytes =
-          ap (λ (t : List ℕ). take used bytes ++ take (stated_len rest) t) rest_is ∙ sym (take-add used (stated_len rest) bytes) ∙ ap (λ (n : ℕ). take (used + n) bytes) (sym len_is) in
-    (omega (arith, h.whole, len_is, length-take (length bytes - used) (drop used bytes), length-drop used bytes),
-      subst (λ (t : List ℕ). Reads before (after ++ raw_at rest ∷ []) from (mark_of (raw_at rest)) t) longer (Reads-more before after from to (take used bytes) rest h p))
+    ap (λ (t : List ℕ). take used bytes ++ take (stated_len rest) t) (from_place-is used bytes) ∙ sym (take-add used (stated_len rest) bytes) ∙ ap (λ (n : ℕ). take (used + n) bytes) (sym len_is) in
+    let held_as : after ++ raw_at rest ∷ [] ≡ held = ap (λ (r : Raw). after ++ r ∷ []) (sym frame_is) ∙ sym held_is in
+    let mark_as : mark_of (raw_at rest) ≡ mark = ap mark_of (sym frame_is) ∙ sym mark_is in
+    let more = Reads-more before after from to (take used bytes) rest h p in
+    let placed = subst (λ (t : List ℕ). Reads before (after ++ raw_at rest ∷ []) from (mark_of (raw_at rest)) t) longer more in
+    let marked = subst (λ (m : Mark). Reads before (after ++ raw_at rest ∷ []) from m (take (used + len) bytes)) mark_as placed in (
+      omega (arith, h.whole, len_is, length-take (length bytes - used) (drop used bytes), length-drop used bytes),
+      subst (λ (l : List Raw). Reads before l from mark (take (used + len) bytes)) held_as marked,
+    )
 
 -- ---- the records of a text, and what is left of it
 
@@ -66,7 +72,7 @@ Stands-from (Some kind) from to text more rest spelled follow mark stops = recor
 pub Gains-from_reads : (fault : Option FrameKind) (before after : List Raw) (from to : Mark) (bytes : List ℕ) (used : ℕ) → Reads before after from to (take used bytes) → Stops fault to (drop used bytes) → Gains before after from to fault bytes (from_place used bytes)
 Gains-from_reads fault before after from to bytes used p stops =
     let spelled : bytes ≡ flat_map raw_bytes p.more ++ drop used bytes =
-          sym (take-append-drop used bytes) ∙ ap (λ (t : List ℕ). t ++ drop used bytes) p.spelled in
+    sym (take-append-drop used bytes) ∙ ap (λ (t : List ℕ). t ++ drop used bytes) p.spelled in
     let stands = Stands-from fault from to bytes p.more (drop used bytes) spelled p.follow p.mark stops in
     record {
       more = p.more;
@@ -129,7 +135,7 @@ pub Gains-whole : (fault : Option FrameKind) (before held after : List Raw) (fro
 Gains-whole fault before held after from mark to old piece rest unread used e h len held_is mark_is p =
     let r = raw_at rest in
     let text : rest ++ from_place used piece ≡ old ++ piece =
-          ap (λ (t : List ℕ). rest ++ t) (from_place-is used piece) ∙ joined old piece rest used e in
+    ap (λ (t : List ℕ). rest ++ t) (from_place-is used piece) ∙ joined old piece rest used e in
     let later = subst (λ (m : Mark). Stands fault m (from_place used piece) p.more unread) mark_is p.stands in
     let stands = Stands-then fault from rest (from_place used piece) (r ∷ []) p.more [] unread (SplitsFrom-whole from rest h len) later in
     record {
@@ -143,7 +149,7 @@ pub BeginsWith-shorter : {X : Type 0} (front more all : List X) → BeginsWith (
 BeginsWith-shorter {X = X} front more all h =
     let n = length (front ++ more) in
     BeginsWith-append front (more ++ drop n all) all
-      (sym (take-append-drop n all) ∙ ap (λ (l : List X). l ++ drop n all) h ∙ append_assoc front more (drop n all))
+    (sym (take-append-drop n all) ∙ ap (λ (l : List X). l ++ drop n all) h ∙ append_assoc front more (drop n all))
 
 -- a record that was less than whole and now is whole ends where its bytes end
 pub ends_there : (mark : Mark) (rest : List ℕ) → Begins mark rest → length rest ≤ max 2 (stated_len rest) → length rest ≡ stated_len rest

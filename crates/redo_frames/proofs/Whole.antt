@@ -1,9 +1,9 @@
 -- The bytes of a whole record with nothing wrong are its spelling.
-use Rattle.std.proofs.Common.{◌≡◌, ℕ, suc, ◌+◌, ◌-◌, ◌<◌, ◌≤◌, ◌^◌, false, List, [], ◌∷◌, ◌++◌, length, get_or, take, drop, drop-cons, add-one, refl, sym, ap, ◌∙◌, append_assoc, arith, inl, inr}
+use Rattle.std.proofs.Common.{◌≡◌, ℕ, ◌+◌, ◌-◌, ◌<◌, ◌≤◌, ◌^◌, false, List, [], ◌∷◌, ◌++◌, length, get_or, take, drop, drop-cons, refl, sym, ap, ◌∙◌, arith, inl, inr}
 use Rattle.std.specs.Int.{w16, w64, to_be_bytes, from_be_bytes}
 use Rattle.std.proofs.Math.Seq.{take-add}
 use Rattle.std.proofs.lemmas.Bool.{cases_lt}
-use Rattle.std.proofs.lemmas.List.{length-take, length-drop, drop-drop, get_or-drop, get_or-take, get_or_past}
+use Rattle.std.proofs.lemmas.List.{length-take, length-drop, get_or-drop, get_or-take, get_or_past}
 use Rattle.std.proofs.lemmas.Nat.{be_bytes_2, be_bytes_8}
 use Rattle.adg_model.specs.Records.{Raw, raw_len, raw_bytes, Mark, stated_len, stated_scn}
 use Rattle.redo_frames.specs.Front.{raw_at, Begins}
@@ -69,9 +69,9 @@ five_parts bytes len long =
     let body = take (len - 13) (drop 11 bytes) in
     let back = take 2 (drop (len - 2) bytes) in
     ap (λ (t : List ℕ). t ++ take 1 (drop 10 bytes) ++ body ++ back) (longer 2 8 10 bytes refl)
-      ∙ ap (λ (t : List ℕ). t ++ body ++ back) (longer 10 1 11 bytes refl)
-      ∙ ap (λ (t : List ℕ). t ++ back) (longer 11 (len - 13) (len - 2) bytes (omega arith))
-      ∙ longer (len - 2) 2 len bytes (omega arith)
+    ∙ ap (λ (t : List ℕ). t ++ body ++ back) (longer 10 1 11 bytes refl)
+    ∙ ap (λ (t : List ℕ). t ++ back) (longer 11 (len - 13) (len - 2) bytes (omega arith))
+    ∙ longer (len - 2) 2 len bytes (omega arith)
 
 raw_bytes-raw_at : (mark : Mark) (bytes : List ℕ) → IsBytes bytes → PassesChecks mark bytes → raw_bytes (raw_at bytes) ≡ take (stated_len bytes) bytes
 raw_bytes-raw_at mark bytes fits h =
@@ -81,12 +81,12 @@ raw_bytes-raw_at mark bytes fits h =
     let count = take 1 (drop 10 bytes) in
     let back = take 2 (drop (stated_len bytes - 2) bytes) in
     raw_bytes-parts r
-      ∙ ap (λ (n : ℕ). five (to_be_bytes w16 n) (to_be_bytes w64 r.scn) (r.count ∷ []) r.body (to_be_bytes w16 n)) (raw_len-raw_at bytes h.long h.whole)
-      ∙ ap (λ (t : List ℕ). five t (to_be_bytes w64 r.scn) (r.count ∷ []) r.body (to_be_bytes w16 (stated_len bytes))) (len_bytes bytes fits (omega (arith, h.long, h.whole)))
-      ∙ ap (λ (t : List ℕ). five front t (r.count ∷ []) r.body (to_be_bytes w16 (stated_len bytes))) (scn_bytes bytes fits (omega (arith, h.long, h.whole)))
-      ∙ ap (λ (t : List ℕ). five front number t r.body (to_be_bytes w16 (stated_len bytes))) (count_bytes bytes (omega (arith, h.long, h.whole)))
-      ∙ ap (λ (t : List ℕ). five front number count r.body t) (trailer_bytes bytes fits (omega (arith, h.long)) h.whole h.trailer)
-      ∙ five_parts bytes (stated_len bytes) h.long
+    ∙ ap (λ (n : ℕ). five (to_be_bytes w16 n) (to_be_bytes w64 r.scn) (r.count ∷ []) r.body (to_be_bytes w16 n)) (raw_len-raw_at bytes h.long h.whole)
+    ∙ ap (λ (t : List ℕ). five t (to_be_bytes w64 r.scn) (r.count ∷ []) r.body (to_be_bytes w16 (stated_len bytes))) (len_bytes bytes fits (omega (arith, h.long, h.whole)))
+    ∙ ap (λ (t : List ℕ). five front t (r.count ∷ []) r.body (to_be_bytes w16 (stated_len bytes))) (scn_bytes bytes fits (omega (arith, h.long, h.whole)))
+    ∙ ap (λ (t : List ℕ). five front number t r.body (to_be_bytes w16 (stated_len bytes))) (count_bytes bytes (omega (arith, h.long, h.whole)))
+    ∙ ap (λ (t : List ℕ). five front number count r.body t) (trailer_bytes bytes fits (omega (arith, h.long)) h.whole h.trailer)
+    ∙ five_parts bytes (stated_len bytes) h.long
 
 pub Begins-where_checked : (mark : Mark) (bytes : List ℕ) → IsBytes bytes → PassesChecks mark bytes → Begins mark bytes
 Begins-where_checked mark bytes fits h = record {

@@ -67,7 +67,13 @@ impl Assembler {
         }
         let held = self.held.len();
         let begun = self.rest.len();
-        match read_piece(self.alloc, &mut self.held, &mut self.rest, self.standing, piece) {
+        match read_piece(
+            self.alloc,
+            &mut self.held,
+            &mut self.rest,
+            self.standing,
+            piece,
+        ) {
             Ok(stop) => {
                 self.standing = stop.standing;
                 self.refused = stop.fault;
@@ -89,6 +95,7 @@ impl Assembler {
         ensures record { MatchOption result
             ((self.old.held ≡ []) × (self.new ≡ self.old))
             (λ r. (self.old.held ≡ raw_of_record r ∷ self.new.held) × (r.number ≡ self.old.taken + 1)) }
+        ensures number { next_number self.new ≡ next_number self.old }
         ensures rest { self.new ≡ record self.old { taken = self.old.taken + length (given result); held = self.new.held } }
         ensures holds { (text : List ℕ) (records : List Raw) → Holds self.old text records → Holds self.new text (records ++ given result) }
     {

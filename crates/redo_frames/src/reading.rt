@@ -43,7 +43,10 @@ fn read_records(
         let rest = &bytes[used..];
         let (len, scn) = match look_at(standing, rest) {
             Front::Part => {
-                let stop = Stop { standing, fault: None };
+                let stop = Stop {
+                    standing,
+                    fault: None,
+                };
                 return Ok(Progress { used, stop });
             }
             Front::Fault(kind) => {

@@ -17,13 +17,7 @@ const REDO: [u8; 77] = [
 ];
 
 /// Whether this is the record of that number, SCN, count and body.
-fn is_record(
-    record: &Option<RawRecord>,
-    number: u64,
-    scn: u64,
-    count: u8,
-    body: &[u8],
-) -> bool {
+fn is_record(record: &Option<RawRecord>, number: u64, scn: u64, count: u8, body: &[u8]) -> bool {
     match record {
         None => false,
         Some(record) => {

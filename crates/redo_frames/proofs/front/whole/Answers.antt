@@ -1,4 +1,4 @@
-use Rattle.std.proofs.Common.{◌≡◌, ◌≤◌, ◌<◌, ◌^◌, ap, arith, refl}
+use Rattle.std.proofs.Common.{◌≤◌, ◌<◌, ◌^◌, ap, arith, refl}
 use Rattle.adg_model.specs.Records.{Mark, stated_scn}
 use Rattle.adg_model.proofs.RecordsFault.{fault_whole, whole_range, whole_order}
 use Rattle.redo_frames.proofs.Whole.{PassesChecks, Begins-where_checked}

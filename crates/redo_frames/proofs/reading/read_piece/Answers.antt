@@ -1,10 +1,9 @@
-use Rattle.std.proofs.Common.{◌≡◌, ◌+◌, ◌-◌, ◌≤◌, ◌<◌, ◌∷◌, [], ◌++◌, length, take, drop, max, ℕ, List, ap, ◌∙◌, arith, subst}
-use Rattle.std.specs.Prelude.{OnErr, IfOk}
+use Rattle.std.proofs.Common.{◌≡◌, ◌∷◌, [], ◌++◌, take, List, ap, ◌∙◌, subst}
 use Rattle.std.proofs.lemmas.Result.{IfOk-weaker, on_err_weaker}
-use Rattle.adg_model.specs.Records.{Raw, Mark, mark_of, stated_len}
+use Rattle.adg_model.specs.Records.{Raw, mark_of}
 use Rattle.redo_frames.specs.Front.{raw_at, Begins}
-use Rattle.redo_frames.specs.Reading.{Gains, BeginsWith}
-use Rattle.redo_frames.proofs.Steps.{from_place, Gains-fault, Gains-whole, BeginsWith-append, BeginsWith-shorter, ends_there}
+use Rattle.redo_frames.specs.Reading.{BeginsWith}
+use Rattle.redo_frames.proofs.Steps.{Gains-fault, Gains-whole, BeginsWith-append, BeginsWith-shorter, ends_there}
 use Rattle.redo_frames.proofs.reading.read_piece.Goals as goal
 
 pub returns-in-Fault-clause-gains : goal.returns-in-Fault-clause-gains
@@ -20,17 +19,17 @@ returns-clause-gains c =
     let held : c.push_back.new.self.items ≡ c.args.held.now.items ++ raw_at rest ∷ [] = rw (← frame) c.in_ok-push_back.ensures.items in
     let mark : c.after-standing.result ≡ mark_of (raw_at rest) = c.after-standing.ensures ∙ ap mark_of frame in
     IfOk-weaker c.read_rest-2.result _ _
-      (λ stop gains. Gains-whole stop.fault c.args.held.now.items c.push_back.new.self.items c.read_rest-2.new.held.items c.args.standing c.after-standing.result stop.standing c.args.rest.now.items c.args.piece.now rest c.read_rest-2.new.rest.items c.in_ok-used.used c.in_ok-used.ensures.added begins len held mark gains)
-      c.read_rest-2.ensures.gains
+    (λ stop gains. Gains-whole stop.fault c.args.held.now.items c.push_back.new.self.items c.read_rest-2.new.held.items c.args.standing c.after-standing.result stop.standing c.args.rest.now.items c.args.piece.now rest c.read_rest-2.new.rest.items c.in_ok-used.used c.in_ok-used.ensures.added begins len held mark gains)
+    c.read_rest-2.ensures.gains
 
 pub returns-clause-held : goal.returns-clause-held
 returns-clause-held c =
     on_err_weaker c.read_rest-2.result
-      (λ begins. BeginsWith-shorter c.args.held.now.items (c.in_ok-frame.frame ∷ []) c.read_rest-2.new.held.items (subst (λ (l : List Raw). BeginsWith l c.read_rest-2.new.held.items) c.in_ok-push_back.ensures.items begins))
-      c.read_rest-2.ensures.held
+    (λ begins. BeginsWith-shorter c.args.held.now.items (c.in_ok-frame.frame ∷ []) c.read_rest-2.new.held.items (subst (λ (l : List Raw). BeginsWith l c.read_rest-2.new.held.items) c.in_ok-push_back.ensures.items begins))
+    c.read_rest-2.ensures.held
 
 pub returns-clause-rest : goal.returns-clause-rest
 returns-clause-rest c =
     on_err_weaker c.read_rest-2.result
-      (λ same. BeginsWith-append c.args.rest.now.items (take c.in_ok-used.used c.args.piece.now) c.read_rest-2.new.rest.items (same ∙ c.in_ok-used.ensures.added))
-      c.read_rest-2.ensures.rest
+    (λ same. BeginsWith-append c.args.rest.now.items (take c.in_ok-used.used c.args.piece.now) c.read_rest-2.new.rest.items (same ∙ c.in_ok-used.ensures.added))
+    c.read_rest-2.ensures.rest

@@ -1,4 +1,4 @@
-use Rattle.std.proofs.Common.{◌≡◌, ◌∙◌, Option, refl, sym, ap, subst}
+use Rattle.std.proofs.Common.{◌∙◌, Option, refl, sym, ap, subst}
 use Rattle.std.specs.Prelude.{IsSome}
 use Rattle.adg_model.specs.declared.fault.FrameKind.{FrameKind}
 use Rattle.redo_frames.specs.Assembly.{Assembly, Holds}
