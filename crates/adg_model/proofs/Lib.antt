@@ -9,3 +9,4 @@ pub mod RecordsSplit
 pub mod CommandLaws
 pub mod ReplyLaws
 pub mod FeedLaws
+pub mod FeedWhole
