@@ -104,6 +104,17 @@ impl Assembler {
         Some(frame.numbered(self.taken))
     }
 
+    /// Whether the record that comes next is refused, as `feed` would answer it.
+    pub fn check(&self) -> Result<(), FrameRefused>
+        requires { next_number self.now < 2 ^ 64 }
+        ensures { IsAnswer result self.now }
+    {
+        match self.refused {
+            Some(kind) => Err(self.refusal(kind)),
+            None => Ok(()),
+        }
+    }
+
     /// Whether no bytes of an unfinished record are kept.
     pub fn is_between_records(&self) -> bool
         ensures { IsTrue result ↔ (self.now.rest ≡ []) }
