@@ -9,3 +9,5 @@ pub mod RecordsSplit
 pub mod CommandLaws
 pub mod ReplyLaws
 pub mod FeedLaws
+pub mod PlainWalk
+pub mod PlainMeaning
