@@ -132,3 +132,6 @@ fn counted(
     lines.push(cells(alloc, aggregates.as_slice(), number as u64)?)?;
     Ok(PlainReply::Rows(lines, rows.len() as u64))
 }
+
+#[cfg(test)]
+mod tests;

@@ -107,39 +107,39 @@ fn follow(
 {
     match vector {
         Vector::Put {
-            txn: of,
+            txn: writer,
             obj,
             block,
             slot,
             row,
         } => {
-            if *of == txn {
+            if *writer == txn {
                 let row = Some(row.copy(alloc)?);
                 add(changes, *obj, *block, *slot, row)?;
             }
         }
         Vector::Delete {
-            txn: of,
+            txn: remover,
             obj,
             block,
             slot,
         } => {
-            if *of == txn {
+            if *remover == txn {
                 add(changes, *obj, *block, *slot, None)?;
             }
         }
         Vector::Undo {
-            txn: of,
+            txn: owner,
             obj,
             block,
             slot,
         } => {
-            if *of == txn {
+            if *owner == txn {
                 strike(changes, *obj, *block, *slot);
             }
         }
-        Vector::Commit { txn: of, .. } | Vector::Abort { txn: of } => {
-            if *of == txn {
+        Vector::Commit { txn: ended, .. } | Vector::Abort { txn: ended } => {
+            if *ended == txn {
                 changes.clear();
             }
         }
