@@ -10,3 +10,5 @@ pub mod CommandLaws
 pub mod ReplyLaws
 pub mod FeedLaws
 pub mod FeedWhole
+pub mod PlainWalk
+pub mod PlainMeaning

@@ -9,3 +9,4 @@ pub mod Command
 pub mod Reply
 pub mod Transcript
 pub mod Laws
+pub mod Plain

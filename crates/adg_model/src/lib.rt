@@ -5,3 +5,4 @@
 pub mod delivery;
 pub mod fault;
 pub mod laws;
+pub mod plain;
