@@ -1,0 +1,121 @@
+//! The fields of vectors: a reader takes one off the front, and hands on the bytes after it.
+
+ghost use Rattle.std.specs.Prelude.{◌≡◌};
+ghost use Rattle.std.specs.Int.{w16, w64};
+ghost use Rattle.change_vectors.specs.Reading.{Gives, byte_at, number_at, not_zero, flag_at, kind_at, change_at, width_at, extents_at};
+
+use crate::unread::Unread;
+use adg_base::number::{Obj, Txn};
+use adg_base::value::ColKind;
+
+/// A transaction, and the address of its change.
+#[derive(Clone, Copy, Debug, PartialEq, Eq)]
+pub struct Change {
+    pub txn: Txn,
+    pub obj: Obj,
+    pub block: u16,
+    pub slot: u8,
+}
+
+pub fn u8_at(bytes: &[u8]) -> Result<(u8, &[u8]), Unread>
+    ensures { Gives (λ x. (x.0, x.1.now)) result (byte_at bytes.now) }
+{
+    match bytes {
+        [] => Err(Unread::Bad),
+        [byte, rest @ ..] => Ok((*byte, rest)),
+    }
+}
+
+pub fn u16_at(bytes: &[u8]) -> Result<(u16, &[u8]), Unread>
+    ensures { Gives (λ x. (x.0, x.1.now)) result (number_at w16 bytes.now) }
+{
+    if bytes.len() < 2 {
+        return Err(Unread::Bad);
+    }
+    let (front, rest) = bytes.split_at(2);
+    Ok((u16::from_be_bytes([front[0], front[1]]), rest))
+}
+
+pub fn u64_at(bytes: &[u8]) -> Result<(u64, &[u8]), Unread>
+    ensures { Gives (λ x. (x.0, x.1.now)) result (number_at w64 bytes.now) }
+{
+    if bytes.len() < 8 {
+        return Err(Unread::Bad);
+    }
+    let (front, rest) = bytes.split_at(8);
+    let number = u64::from_be_bytes([
+        front[0], front[1], front[2], front[3], front[4], front[5], front[6], front[7],
+    ]);
+    Ok((number, rest))
+}
+
+#[tactic(auto, unfolding(crate::specs::Reading::flag_at))]
+pub fn flag_of(bytes: &[u8]) -> Result<(bool, &[u8]), Unread>
+    ensures { Gives (λ x. (x.0, x.1.now)) result (flag_at bytes.now) }
+{
+    let (byte, rest) = u8_at(bytes)?;
+    match byte {
+        0 => Ok((false, rest)),
+        1 => Ok((true, rest)),
+        _ => Err(Unread::Bad),
+    }
+}
+
+#[tactic(auto, unfolding(crate::specs::Reading::kind_at))]
+pub fn kind_of(bytes: &[u8]) -> Result<(ColKind, &[u8]), Unread>
+    ensures { Gives (λ x. (x.0, x.1.now)) result (kind_at bytes.now) }
+{
+    let (byte, rest) = u8_at(bytes)?;
+    match byte {
+        1 => Ok((ColKind::Int, rest)),
+        2 => Ok((ColKind::Text, rest)),
+        _ => Err(Unread::Bad),
+    }
+}
+
+#[tactic(auto, unfolding(crate::specs::Reading::width_at))]
+pub fn width_of(bytes: &[u8]) -> Result<(u8, &[u8]), Unread>
+    ensures { Gives (λ x. (x.0, x.1.now)) result (width_at bytes.now) }
+{
+    let (width, rest) = u8_at(bytes)?;
+    if 1 <= width && width <= 16 {
+        Ok((width, rest))
+    } else {
+        Err(Unread::Bad)
+    }
+}
+
+#[tactic(auto, unfolding(crate::specs::Reading::extents_at))]
+pub fn extents_of(bytes: &[u8]) -> Result<(u16, &[u8]), Unread>
+    ensures { Gives (λ x. (x.0, x.1.now)) result (extents_at bytes.now) }
+{
+    let (extents, rest) = u16_at(bytes)?;
+    if 1 <= extents && extents <= 256 {
+        Ok((extents, rest))
+    } else {
+        Err(Unread::Bad)
+    }
+}
+
+#[tactic(auto, unfolding(crate::specs::Reading::change_at))]
+pub fn change_of(bytes: &[u8]) -> Result<(Change, &[u8]), Unread>
+    ensures { Gives (λ x. (x.0, x.1.now)) result (change_at bytes.now) }
+{
+    let (txn, rest) = u64_at(bytes)?;
+    let Some(txn) = Txn::new(txn) else {
+        return Err(Unread::Bad);
+    };
+    let (obj, rest) = u16_at(rest)?;
+    let Some(obj) = Obj::new(obj) else {
+        return Err(Unread::Bad);
+    };
+    let (block, rest) = u16_at(rest)?;
+    let (slot, rest) = u8_at(rest)?;
+    let change = Change {
+        txn,
+        obj,
+        block,
+        slot,
+    };
+    Ok((change, rest))
+}

@@ -1,0 +1,15 @@
+//! Redo records as bytes: the vectors that the bytes of a record spell, and the one spelling of a
+//! record.
+#![tactic(auto)]
+
+mod field;
+pub mod law;
+pub mod read;
+pub mod refused;
+mod size;
+#[cfg(test)]
+mod tests;
+mod unread;
+mod value;
+mod vector;
+pub mod write;
