@@ -16,6 +16,9 @@ R\0\0\0\x4e\x01\0\x15\0\0\0\0\0\0\0\x0a\x01\x07\0\x01\0\x01\x01\x01\x01\0\x15\
 \x05\0\0\0\0\0\0\0\x07\x01\0\x38\
 E\0\0\0\0Q\0\0\0\x15\x01SELECT COUNT FROM t1E\0\0\0\0X\0\0\0\0";
 
+/// Its magic and its header.
+const OPENING: [u8; 15] = *b"IMADG01\nH\0\0\0\x02\x01\x01";
+
 /// How the reading of a whole feed went.
 #[derive(Debug, Drop)]
 struct Reading {
@@ -104,7 +107,24 @@ fn gives_what_the_feed_brings(rt: HostRuntime) -> Result<(), Fail> {
         assert_eq!(rt; reading.fault, None);
         assert_eq!(rt; reading.taken, 139);
         assert!(rt; reading.again);
-        assert_eq!(rt; reading.deliveries.len(), 2);
+        let mut deliveries = reading.deliveries.into_iter();
+        let first = deliveries.next().ok_or("no delivery")?;
+        let pieces = first.pieces.as_slice();
+        assert_eq!(rt; pieces.len(), 1);
+        assert_eq!(rt; pieces[0].thread, 1);
+        assert_eq!(rt; pieces[0].bytes.as_slice(), &FEED.as_slice()[21..98]);
+        assert!(rt; first.commands.is_empty());
+        let second = deliveries.next().ok_or("one delivery")?;
+        let commands = second.commands.as_slice();
+        assert_eq!(rt; commands.len(), 1);
+        assert_eq!(rt; commands[0].session, 1);
+        assert_eq!(rt;
+            commands[0].text.as_slice(),
+            b"SELECT COUNT FROM t1".as_slice()
+        );
+        assert!(rt; second.pieces.is_empty());
+        assert!(rt; second.schedule.is_empty());
+        assert!(rt; deliveries.next().is_none());
     }
     for call in 1..20 {
         let reading = read(rt.alloc(), FEED.as_slice(), 1000, &[call])?;
@@ -118,6 +138,72 @@ fn gives_what_the_feed_brings(rt: HostRuntime) -> Result<(), Fail> {
         if call == 12 {
             assert_eq!(rt; taken, 103);
         }
+    }
+    Ok(())
+}
+
+/// Appends a frame.
+fn push_frame(feed: &mut Vec<u8>, tag: u8, payload: &[u8]) -> Result<(), Fail> {
+    let len = u32::try_from(payload.len())?;
+    feed.push(tag)?;
+    feed.extend_from_slice(&len.to_be_bytes())?;
+    feed.extend_from_slice(payload)?;
+    Ok(())
+}
+
+/// Appends so many commands of one byte.
+fn push_commands(feed: &mut Vec<u8>, count: u16) -> Result<(), Fail> {
+    for _ in 0..count {
+        push_frame(feed, b'Q', &[1])?;
+    }
+    Ok(())
+}
+
+/// A feed at each limit: the payload of a delivery, the commands of a session, and a command.
+fn full_feed(alloc: Global) -> Result<Vec<u8>, Fail> {
+    let mut feed = Vec::from_slice(alloc, OPENING.as_slice())?;
+    let schedule = vec![in alloc; 0; 33_554_432]?;
+    push_frame(&mut feed, b'S', schedule.as_slice())?;
+    push_frame(&mut feed, b'E', &[])?;
+    push_commands(&mut feed, 1_024)?;
+    push_frame(&mut feed, b'E', &[])?;
+    let command = vec![in alloc; 1; 1_025]?;
+    push_frame(&mut feed, b'Q', command.as_slice())?;
+    push_frame(&mut feed, b'E', &[])?;
+    push_frame(&mut feed, b'X', &[])?;
+    Ok(feed)
+}
+
+#[test]
+fn keeps_to_the_limits(rt: HostRuntime) -> Result<(), Fail> {
+    let mut feed = full_feed(rt.alloc())?;
+    let taken = feed.len() as u64;
+    feed.push(7)?;
+    let reading = read(rt.alloc(), feed.as_slice(), 100_000, &[])?;
+    assert_eq!(rt; reading.fault, None);
+    assert_eq!(rt; reading.taken, taken);
+    assert_eq!(rt; reading.left, 1);
+    let lens = [(33_554_432, 0), (0, 1_024), (0, 1)];
+    assert_eq!(rt; reading.deliveries.len(), lens.len());
+    for (delivery, (schedule, commands)) in reading.deliveries.iter().zip(lens) {
+        assert_eq!(rt; delivery.schedule.len(), schedule);
+        assert_eq!(rt; delivery.commands.len(), commands);
+    }
+
+    let mut large = Vec::from_slice(rt.alloc(), OPENING.as_slice())?;
+    large.extend_from_slice(b"S\x02\0\0\x01".as_slice())?;
+    let mut long = Vec::from_slice(rt.alloc(), OPENING.as_slice())?;
+    long.extend_from_slice(b"Q\0\0\x04\x02".as_slice())?;
+    let mut many = Vec::from_slice(rt.alloc(), OPENING.as_slice())?;
+    push_commands(&mut many, 1_025)?;
+    for (feed, kind, byte, taken) in [
+        (large, FeedKind::TooLarge, 15, 20),
+        (long, FeedKind::BadLength, 15, 20),
+        (many, FeedKind::TooManyCommands, 6_159, 6_165),
+    ] {
+        let reading = read(rt.alloc(), feed.as_slice(), 100_000, &[])?;
+        assert_eq!(rt; reading.fault, Some(FeedFault { kind, byte }));
+        assert_eq!(rt; reading.taken, taken);
     }
     Ok(())
 }
