@@ -1,5 +1,5 @@
 -- The head and the tail of a line are the line.
-use Rattle.std.proofs.Common.{◌≡◌, ◌++◌, ℕ, List, [], ◌∷◌, Option, Some, None, append_assoc, append-nil, arith, ◌∙◌, ap, sym, codes}
+use Rattle.std.proofs.Common.{◌≡◌, ◌++◌, ℕ, List, [], Some, append_assoc, append-nil, arith, ap, sym, codes}
 use Rattle.std.specs.Fmt.{decimal}
 use Rattle.std.proofs.lemmas.Fmt.{decimal_digit}
 use Rattle.adg_model.specs.Reply.{line_bytes, newline, at_scn}

@@ -1,5 +1,5 @@
 -- The text of a count, and the number that is read in it.
-use Rattle.std.proofs.Common.{◌≡◌, ◌++◌, ◌<◌, ◌≤◌, ◌^◌, ℕ, List, [], ◌∷◌, Result, Ok, append_assoc, append-nil, arith, ◌∙◌, ap, sym, subst, codes, Option, Some, None, IsSome, IfSome, ◌↔◌, Bool, true, false, lit≤, nat_eq, refl}
+use Rattle.std.proofs.Common.{◌≡◌, ◌≤◌, ℕ, List, Result, Ok, append-nil, arith, ◌∙◌, ap, sym, subst, Option, Some, None, IsSome, IfSome, ◌↔◌, true, false, lit≤, nat_eq, refl}
 use Rattle.std.specs.Fmt.{decimal}
 use Rattle.std.specs.Cmp.Lexicographic.{pointwise}
 use Rattle.std.specs.Str.{IsUtf8}

@@ -1,2 +1,15 @@
+pub mod AnsweredLaws
 pub mod CountLines
 pub mod CountTexts
+pub mod HeadlineLaws
+pub mod LegalLaws
+pub mod RunLaws
+pub mod StandbyLaws
+pub mod StoreCommit
+pub mod StoreCount
+pub mod StoreKinds
+pub mod StoreRows
+pub mod StoreSteps
+pub mod ThreadLaws
+pub mod TranscriptMore
+pub mod RunMore

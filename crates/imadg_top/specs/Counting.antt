@@ -1,5 +1,5 @@
 -- The one command that is answered: SELECT COUNT FROM a table.
-use Rattle.std.specs.Prelude.{◌≡◌, ℕ, pos, List, [], ◌∷◌, ◌++◌, Option, Some, None, codes}
+use Rattle.std.specs.Prelude.{ℕ, pos, List, [], ◌∷◌, ◌++◌, Option, Some, None, codes}
 use Rattle.adg_base.specs.declared.command.Command.{Command}
 use Rattle.adg_base.specs.declared.command.Command.TheVariants as command
 use Rattle.adg_base.specs.declared.command.What.TheVariants.{Aggregates}
@@ -9,7 +9,7 @@ use Rattle.adg_base.specs.declared.answer.Reply.{Reply}
 use Rattle.adg_base.specs.declared.answer.Reply.TheVariants.{Rows, NoTable}
 use Rattle.std.specs.Fmt.{decimal}
 use Rattle.adg_model.specs.Reply.{newline, at_scn}
-use Rattle.adg_model.specs.Command.{Spells, command_bytes}
+use Rattle.adg_model.specs.Command.{Spells}
 
 -- the count of an object's rows as a command, and its text
 abbrev pub count_command : ℕ → Command

@@ -1,2 +1,10 @@
-pub mod Words
+pub mod Answered
 pub mod Counting
+pub mod Headline
+pub mod Progress
+pub mod Report
+pub mod Run
+pub mod Standby
+pub mod Store
+pub mod Thread
+pub mod Words

@@ -1,4 +1,4 @@
-use Rattle.std.proofs.Common.{◌≡◌, ◌++◌, ◌∙◌, ap, Some, List, ℕ}
+use Rattle.std.proofs.Common.{◌++◌, ◌∙◌, ap, Some, List, ℕ}
 use Rattle.imadg_top.specs.Counting.{tail_bytes}
 use Rattle.imadg_top.proofs.CountLines.{head-tail_rows}
 use Rattle.imadg_top.proofs.lines.push_count.Goals as goal

@@ -1,4 +1,4 @@
-use Rattle.std.proofs.Common.{◌≡◌, ◌++◌, ◌∙◌, ap, List, ℕ, string_bytes}
+use Rattle.std.proofs.Common.{◌++◌, ◌∙◌, ap, List, ℕ, string_bytes}
 use Rattle.imadg_top.proofs.CountLines.{rows-tail}
 use Rattle.imadg_top.proofs.lines.push_rows.Goals as goal
 

@@ -1,4 +1,4 @@
-use Rattle.std.proofs.Common.{◌≡◌, ◌∙◌, ℕ, Some, Ok, sym, ap, List, arith}
+use Rattle.std.proofs.Common.{◌≡◌, ◌∙◌, sym, ap, arith}
 use Rattle.adg_model.specs.Spelling.{IsObj}
 use Rattle.imadg_top.specs.Counting.{count_text}
 use Rattle.imadg_top.proofs.CountTexts.{command_bytes-count, counts, same_bytes, apart_bytes}

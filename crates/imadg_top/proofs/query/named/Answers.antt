@@ -1,4 +1,4 @@
-use Rattle.std.proofs.Common.{◌≡◌, ◌∙◌, ℕ, Some, Ok}
+use Rattle.std.proofs.Common.{◌≡◌, ◌∙◌, Ok}
 use Rattle.std.specs.Fmt.{decimal}
 use Rattle.imadg_top.proofs.CountTexts.{utf8_digits, parsed_digits, some_in_range}
 use Rattle.imadg_top.proofs.query.named.Goals as goal

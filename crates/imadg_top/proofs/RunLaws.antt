@@ -1,0 +1,129 @@
+-- The walk over the log of one thread is the run of its vectors.
+use Rattle.std.proofs.Common.{◌≡◌, ◌++◌, ℕ, ◌+◌, ◌≤◌, List, [], ◌∷◌, map, ◌∙◌, ap, sym, subst, refl}
+use Rattle.std.specs.List.{AllByRecursion}
+use Rattle.std.proofs.lemmas.Grind.{flat_map-append}
+use Rattle.adg_base.specs.declared.vector.Vector.{Vector}
+use Rattle.adg_base.specs.declared.vector.Vector.TheVariants.{Begin, Put, Delete, Undo, Commit, Abort, Create, DropObject, AddColumn, NoInMemory, EndThread}
+use Rattle.adg_base.specs.declared.vector.RedoRecord.{RedoRecord}
+use Rattle.adg_base.specs.declared.log.LogEntry.{LogEntry}
+use Rattle.adg_model.specs.Spelling.{IsVector, AreVectors}
+use Rattle.adg_model.specs.Records.{Mark, first_mark, mark_of, mark_after, raw_of, AreRaws, AreReadable}
+use Rattle.adg_model.specs.Log.{record_entries, thread_entries, numbered, merged_log, thread_mark, upto}
+use Rattle.adg_model.specs.Database.{Database, after, walked, no_database, database, database_at}
+use Rattle.adg_model.specs.Sound.{SoundFrom, IsSound}
+use Rattle.adg_model.proofs.LogLaws.{merged_one, upto_all, thread_entries_within, each_weaker, IsWithin}
+use Rattle.imadg_top.specs.Run.{vectors_of, ran, TakesAll, scn_after}
+
+abbrev vectors : List LogEntry → List Vector
+vectors es = map (λ e. e.vector) es
+
+vectors-append : (xs ys : List LogEntry) → vectors (xs ++ ys) ≡ vectors xs ++ vectors ys
+vectors-append [] ys = refl
+vectors-append (x ∷ xs) ys = ap (λ (l : List Vector). x.vector ∷ l) (vectors-append xs ys)
+
+vectors-numbered : (pos : ℕ) (es : List LogEntry) → vectors (numbered pos es) ≡ vectors es
+vectors-numbered pos [] = refl
+vectors-numbered pos (e ∷ es) = ap (λ (l : List Vector). e.vector ∷ l) (vectors-numbered (pos + 1) es)
+
+vectors-record : (t n scn i : ℕ) (vs : List Vector) → vectors (record_entries t n scn i vs) ≡ vs
+vectors-record t n scn i [] = refl
+vectors-record t n scn i (v ∷ vs) = ap (λ (l : List Vector). v ∷ l) (vectors-record t n scn (i + 1) vs)
+
+vectors-thread : (t n : ℕ) (rs : List RedoRecord) → vectors (thread_entries t n rs) ≡ vectors_of rs
+vectors-thread t n [] = refl
+vectors-thread t n (r ∷ rs) =
+    vectors-append (record_entries t n r.scn 1 r.vectors) (thread_entries t (n + 1) rs)
+    ∙ ap (λ (l : List Vector). l ++ vectors (thread_entries t (n + 1) rs)) (vectors-record t n r.scn 1 r.vectors)
+    ∙ ap (λ (l : List Vector). r.vectors ++ l) (vectors-thread t (n + 1) rs)
+
+walked-ran : (db : Database) (es : List LogEntry) → walked db es ≡ ran db (vectors es)
+walked-ran db [] = refl
+walked-ran db (e ∷ es) = walked-ran (after db e.vector) es
+
+-- the database of the one thread's log
+pub database-ran : (rs : List RedoRecord) → AreRaws first_mark (map raw_of rs) → database (merged_log (rs ∷ [])) ≡ ran no_database (vectors_of rs)
+unfolding database
+database-ran rs h =
+    ap (walked no_database) (merged_one rs h)
+    ∙ walked-ran no_database (numbered 0 (thread_entries 1 1 rs))
+    ∙ ap (ran no_database) (vectors-numbered 0 (thread_entries 1 1 rs) ∙ vectors-thread 1 1 rs)
+
+numbered_within : (f pos : ℕ) (es : List LogEntry) → AllByRecursion (λ e. e.scn ≤ f) es → AllByRecursion (λ e. e.scn ≤ f) (numbered pos es)
+numbered_within f pos [] h = tt
+numbered_within f pos (e ∷ es) h = (h.0, numbered_within f (pos + 1) es h.1)
+
+-- at the frontier all of the log is walked
+pub database-at-ran : (rs : List RedoRecord) → AreRaws first_mark (map raw_of rs) → database_at (merged_log (rs ∷ [])) (thread_mark rs).scn ≡ ran no_database (vectors_of rs)
+database-at-ran rs h =
+    let f : ℕ = (thread_mark rs).scn in
+    let es : List LogEntry = thread_entries 1 1 rs in
+    let within = numbered_within f 0 es (each_weaker (IsWithin 1 0 f) (λ e. e.scn ≤ f) (λ e k. k.upto) es (thread_entries_within 1 1 first_mark rs h)) in
+    let all : upto f (merged_log (rs ∷ [])) ≡ merged_log (rs ∷ []) = rw (merged_one rs h) (upto_all f (numbered 0 es) within) in
+    ap database all ∙ database-ran rs h
+
+pub ran-append : (db : Database) (xs ys : List Vector) → ran db (xs ++ ys) ≡ ran (ran db xs) ys
+ran-append db [] ys = refl
+ran-append db (x ∷ xs) ys = ran-append (after db x) xs ys
+
+pub TakesAll-append : (db : Database) (xs ys : List Vector) → TakesAll db xs → TakesAll (ran db xs) ys → TakesAll db (xs ++ ys)
+TakesAll-append db [] ys h k = k
+TakesAll-append db (x ∷ xs) ys h k = (h.0, TakesAll-append (after db x) xs ys h.1 k)
+
+pub TakesAll-front : (db : Database) (xs ys : List Vector) → TakesAll db (xs ++ ys) → TakesAll db xs
+TakesAll-front db [] ys h = tt
+TakesAll-front db (x ∷ xs) ys h = (h.0, TakesAll-front (after db x) xs ys h.1)
+
+pub TakesAll-after : (db : Database) (xs ys : List Vector) → TakesAll db (xs ++ ys) → TakesAll (ran db xs) ys
+TakesAll-after db [] ys h = h
+TakesAll-after db (x ∷ xs) ys h = TakesAll-after (after db x) xs ys h.1
+
+pub vectors_of-append : (rs ss : List RedoRecord) → vectors_of (rs ++ ss) ≡ vectors_of rs ++ vectors_of ss
+vectors_of-append rs ss = flat_map-append (λ (r : RedoRecord). r.vectors) rs ss
+
+-- a vector of a record may stand alone
+alone : (n : ℕ) (v : Vector) → IsVector n v → IsVector 1 v
+alone n (Begin t) h = h
+alone n (Put t o b s row) h = h
+alone n (Delete t o b s) h = h
+alone n (Undo t o b s) h = h
+alone n (Commit t f) h = h
+alone n (Abort t) h = h
+alone n (Create o e f cs) h = h
+alone n (DropObject o) h = h
+alone n (AddColumn o k) h = h
+alone n (NoInMemory o) h = h
+alone n EndThread h = refl
+
+alone_all : (n : ℕ) (vs : List Vector) → AreVectors n vs → AreVectors 1 vs
+alone_all n [] h = tt
+alone_all n (v ∷ vs) h = (alone n v h.0, alone_all n vs h.1)
+
+all-append : (xs ys : List Vector) → AreVectors 1 xs → AreVectors 1 ys → AreVectors 1 (xs ++ ys)
+all-append [] ys h k = k
+all-append (x ∷ xs) ys h k = (h.0, all-append xs ys h.1 k)
+
+readable : (rs : List RedoRecord) → AreReadable rs → AreVectors 1 (vectors_of rs)
+readable [] h = tt
+readable (r ∷ rs) h = all-append r.vectors (vectors_of rs) (alone_all _ r.vectors h.0) (readable rs h.1)
+
+sound-from : (db : Database) (es : List LogEntry) → AreVectors 1 (vectors es) → TakesAll db (vectors es) → SoundFrom db es
+sound-from db [] h k = tt
+sound-from db (e ∷ es) h k = (h.0, k.0.1, sound-from (after db e.vector) es h.1 k.1)
+
+-- the one thread's log is sound where the store takes its vectors
+pub sound-run : (rs : List RedoRecord) → AreRaws first_mark (map raw_of rs) → AreReadable rs → TakesAll no_database (vectors_of rs) → IsSound (merged_log (rs ∷ []))
+sound-run rs h good takes =
+    let es : List LogEntry = numbered 0 (thread_entries 1 1 rs) in
+    let same : vectors es ≡ vectors_of rs = vectors-numbered 0 (thread_entries 1 1 rs) ∙ vectors-thread 1 1 rs in
+    subst IsSound (sym (merged_one rs h))
+    (sound-from no_database es (subst (AreVectors 1) (sym same) (readable rs good)) (subst (TakesAll no_database) (sym same) takes))
+
+-- where a thread stands after more records
+pub mark-more : (mark : Mark) (rs more : List RedoRecord) → (mark_after mark (map raw_of (rs ++ more))).scn ≡ scn_after (mark_after mark (map raw_of rs)).scn more
+mark-more mark [] [] = refl
+mark-more mark [] (r ∷ rs) = mark-more (mark_of (raw_of r)) [] rs
+mark-more mark (r ∷ rs) more = mark-more (mark_of (raw_of r)) rs more
+
+pub scn_after-more : (scn : ℕ) (rs : List RedoRecord) (r : RedoRecord) → scn_after scn (rs ++ r ∷ []) ≡ r.scn
+scn_after-more scn [] r = refl
+scn_after-more scn (s ∷ rs) r = scn_after-more s.scn rs r

@@ -1,0 +1,220 @@
+-- What a run of the program promises, over its words, its source, its sink and its outcome.
+use Rattle.std.specs.Prelude.{◌≡◌, ◌≢◌, ℕ, ◌+◌, ◌-◌, ◌<◌, ◌^◌, min, List, [], ◌∷◌, ◌++◌, length, map, Option, Some, None, IfSome, ◌⊎◌}
+use Rattle.std.specs.List.{AllByRecursion}
+use Rattle.std.specs.Io.KnownBytes.{Consumes, Appends}
+use Rattle.adg_base.specs.declared.command.CommandText.{CommandText}
+use Rattle.adg_base.specs.declared.vector.RedoRecord.{RedoRecord}
+use Rattle.adg_io.specs.Faults.{Rose}
+use Rattle.adg_model.specs.declared.delivery.RawDelivery.{RawDelivery}
+use Rattle.adg_model.specs.declared.fault.FeedKind.{FeedKind}
+use Rattle.adg_model.specs.declared.fault.FeedKind.TheVariants as kinds
+use Rattle.adg_model.specs.declared.fault.RedoFault.{RedoFault}
+use Rattle.adg_model.specs.Feed.{Item, IsHeader, IsFeed, BeginsFeed, FeedFails, opening_bytes, deliveries_bytes, feed_bytes, delivery_of}
+use Rattle.adg_model.specs.Records.{HasRecords, thread_text}
+use Rattle.adg_model.specs.Log.{merged_log}
+use Rattle.adg_model.specs.Database.{no_database}
+use Rattle.adg_model.specs.Sound.{IsSound, IsRedoFault}
+use Rattle.adg_model.specs.Transcript.{IsTranscript}
+use Rattle.imadg_top.specs.Words.{workers_of, usage_line}
+use Rattle.imadg_top.specs.Counting.{Counts}
+use Rattle.imadg_top.specs.Report.{feed_line, redo_line, not_built_line}
+use Rattle.imadg_top.specs.Run.{vectors_of, TakesAll}
+use Rattle.imadg_top.specs.Standby.{HasUntaken, AsksOther}
+use Rattle.imadg_top.specs.declared.outcome.Outcome.{Outcome}
+
+-- how a run ends
+pub data Ending : Type 0 where
+  FeedRead : Ending
+  WordsRefused : Ending
+  FeedRefused : FeedKind → ℕ → Ending
+  RedoRefused : RedoFault → Ending
+  SourceFailed : Ending
+  SinkFailed : Ending
+  NoMemory : Ending
+  NotBuilt : Ending
+
+abbrev pub status_of : Ending → ℕ
+status_of FeedRead = 0
+status_of WordsRefused = 1
+status_of (FeedRefused kind byte) = 2
+status_of (RedoRefused fault) = 3
+status_of SourceFailed = 4
+status_of SinkFailed = 5
+status_of NoMemory = 6
+status_of NotBuilt = 7
+
+-- the deliveries that some lists of items make
+abbrev pub deliveries_of : List (List Item) → List RawDelivery
+deliveries_of deliveries = map delivery_of deliveries
+
+-- a command text counts the rows of some object
+abbrev pub CountsSome : CommandText → Type 0
+CountsSome c = (obj : ℕ) × Counts c.text obj
+
+-- All of some deliveries was run: their records can be read, the merged log is sound and has only vectors
+-- that are served, every command is a count, and what was written is a legal transcript of them.
+pub record RanAll (sessions : ℕ) (deliveries : List RawDelivery) (written : List ℕ) : Type 0 where
+  pub records : List RedoRecord
+  pub has : HasRecords (thread_text 1 deliveries) records
+  pub sound : IsSound (merged_log (records ∷ []))
+  pub takes : TakesAll no_database (vectors_of records)
+  pub counts : AllByRecursion (λ d. AllByRecursion CountsSome d.commands) deliveries
+  pub transcript : IsTranscript 1 sessions deliveries written
+
+-- the opening of a feed with one thread and some of its deliveries
+abbrev pub read_bytes : ℕ → List (List Item) → List ℕ
+read_bytes sessions deliveries = opening_bytes 1 sessions ++ deliveries_bytes deliveries
+
+-- a whole feed was read, through its stop frame and no further
+pub record HasEnded (taken written : List ℕ) : Type 0 where
+  pub sessions : ℕ
+  pub deliveries : List (List Item)
+  pub feed : IsFeed 1 sessions deliveries
+  pub read : taken ≡ feed_bytes 1 sessions deliveries
+  pub ran : RanAll sessions (deliveries_of deliveries) written
+
+-- the bytes of the source have this first fault, and the deliveries before it were run
+pub record HasFeedFault (source : Option (List ℕ)) (kind : FeedKind) (byte : ℕ) (written : List ℕ) : Type 0 where
+  pub sessions : ℕ
+  pub deliveries : List (List Item)
+  pub fails : IfSome source (λ bytes. FeedFails bytes 1 sessions deliveries kind byte)
+  pub ran : RanAll sessions (deliveries_of deliveries) written
+
+-- deliveries were run, and one more was read
+pub record HasOneMore (taken written : List ℕ) : Type 0 where
+  pub sessions : ℕ
+  pub deliveries : List (List Item)
+  pub last : List Item
+  pub feed : IsFeed 1 sessions (deliveries ++ last ∷ [])
+  pub read : taken ≡ read_bytes sessions (deliveries ++ last ∷ [])
+  pub ran : RanAll sessions (deliveries_of deliveries) written
+
+abbrev pub all_of : {taken written : List ℕ} → HasOneMore taken written → List RawDelivery
+all_of h = deliveries_of (h.deliveries ++ h.last ∷ [])
+
+-- the redo of the last delivery has this fault
+pub record HasRedoFault (fault : RedoFault) (taken written : List ℕ) : Type 0 where
+  pub one : HasOneMore taken written
+  pub fault_is : IsRedoFault 1 (all_of one) fault
+
+-- A feed of more threads than one; or a delivery with a vector that is not served or an entry that is not
+-- sound, or with a command that is no count.
+pub record HasThreads (taken written : List ℕ) : Type 0 where
+  pub threads : ℕ
+  pub sessions : ℕ
+  pub header : IsHeader threads sessions
+  pub many : 1 < threads
+  pub read : taken ≡ opening_bytes threads sessions
+  pub none : written ≡ []
+
+pub record IsUnbuilt (taken written : List ℕ) : Type 0 where
+  pub one : HasOneMore taken written
+  pub unbuilt : HasUntaken (thread_text 1 (all_of one)) ⊎ AsksOther (thread_text 1 (all_of one)) (delivery_of one.last)
+
+-- the deliveries that were read whole so far were run, the last one perhaps aside
+pub record HasSoFar (taken written : List ℕ) : Type 0 where
+  pub sessions : ℕ
+  pub deliveries : List (List Item)
+  pub more : List ℕ
+  pub feed : IsFeed 1 sessions deliveries
+  pub read : taken ≡ read_bytes sessions deliveries ++ more
+  pub ran : RanAll sessions (deliveries_of deliveries) written
+
+abbrev pub SoFar : List ℕ → List ℕ → Type 0
+SoFar taken written = (written ≡ []) ⊎ HasSoFar taken written
+
+-- a front of what is written of the deliveries read
+pub record IsCutTranscript (taken written : List ℕ) : Type 0 where
+  pub whole : List ℕ
+  pub cut : List ℕ
+  pub front : written ++ cut ≡ whole
+  pub so_far : HasSoFar taken whole
+
+-- How the run of a feed stops, before a line is written that says so.
+abbrev pub Stops : Ending → Option (List ℕ) → List ℕ → List ℕ → Type 0
+Stops FeedRead source taken written = HasEnded taken written
+Stops WordsRefused source taken written = ⊥
+Stops (FeedRefused kind byte) source taken written = HasFeedFault source kind byte written
+Stops (RedoRefused fault) source taken written = HasRedoFault fault taken written
+Stops SourceFailed source taken written = SoFar taken written
+Stops SinkFailed source taken written = IsCutTranscript taken written
+Stops NoMemory source taken written = SoFar taken written
+Stops NotBuilt source taken written = HasThreads taken written ⊎ IsUnbuilt taken written
+
+-- the line that says so, where there is one
+abbrev pub line_of : Ending → List ℕ
+line_of FeedRead = []
+line_of WordsRefused = usage_line
+line_of (FeedRefused kind byte) = feed_line kind byte
+line_of (RedoRefused fault) = redo_line fault
+line_of SourceFailed = []
+line_of SinkFailed = []
+line_of NoMemory = []
+line_of NotBuilt = not_built_line
+
+-- the run of a feed stopped, and then the line of its ending was written
+pub record StopsWithLine (ending : Ending) (source : Option (List ℕ)) (taken written : List ℕ) : Type 0 where
+  pub before : List ℕ
+  pub stops : Stops ending source taken before
+  pub then_line : written ≡ before ++ line_of ending
+
+-- the same, where only a front of the line was written
+pub record StopsInLine (source : Option (List ℕ)) (taken written : List ℕ) : Type 0 where
+  pub ending : Ending
+  pub before : List ℕ
+  pub cut : List ℕ
+  pub stops : Stops ending source taken before
+  pub front : written ++ cut ≡ before ++ line_of ending
+
+-- the usage line was written where the words are refused, or a front of it
+pub record IsUsage (words : List (List ℕ)) (taken written cut : List ℕ) : Type 0 where
+  pub refused : workers_of words ≡ None
+  pub nothing_read : taken ≡ []
+  pub usage : written ++ cut ≡ usage_line
+
+-- how a run ends over its words
+abbrev pub Ends : List (List ℕ) → Ending → Option (List ℕ) → List ℕ → List ℕ → Type 0
+Ends words WordsRefused source taken written = IsUsage words taken written []
+Ends words SinkFailed source taken written =
+    ((cut : List ℕ) × IsUsage words taken written cut)
+    ⊎ ((workers : ℕ) × (workers_of words ≡ Some workers) × (IsCutTranscript taken written ⊎ StopsInLine source taken written))
+Ends words NoMemory source taken written =
+    (workers : ℕ) × (workers_of words ≡ Some workers) × (SoFar taken written ⊎ StopsInLine source taken written)
+Ends words ending source taken written =
+    (workers : ℕ) × (workers_of words ≡ Some workers) × StopsWithLine ending source taken written
+
+-- a count that stands still at the last value of a u64
+abbrev pub counted : List ℕ → ℕ
+counted bytes = min (length bytes) (2 ^ 64 - 1)
+
+-- The headline: what was taken of the source and written to the sink, the two counts, and how the run
+-- ended; a fault of the source or the sink ends it only where its count of faults rose.
+pub record Headline (words : List (List ℕ)) (source rest : Option (List ℕ)) (sink held : Option (List ℕ)) (reads reads_now writes writes_now : ℕ) (outcome : Outcome) : Type 0 where
+  pub taken : List ℕ
+  pub written : List ℕ
+  pub took : Consumes source rest taken
+  pub wrote : Appends sink held written
+  pub taken_count : outcome.taken ≡ length taken
+  pub written_count : outcome.written ≡ counted written
+  pub ending : Ending
+  pub status : outcome.status ≡ status_of ending
+  pub ends : Ends words ending source taken written
+  pub read_fault : ending ≡ SourceFailed → Rose reads reads_now
+  pub write_fault : ending ≡ SinkFailed → Rose writes writes_now
+
+-- bytes that begin with a whole feed, where the redo of none of its deliveries has a fault
+pub record IsGoodFeed (bytes : List ℕ) : Type 0 where
+  pub threads : ℕ
+  pub sessions : ℕ
+  pub deliveries : List (List Item)
+  pub unread : List ℕ
+  pub begins : BeginsFeed bytes threads sessions deliveries unread
+  pub no_fault : (before more : List (List Item)) (fault : RedoFault) → deliveries ≡ before ++ more → IsRedoFault threads (deliveries_of before) fault → ⊥
+
+-- Over such bytes, with accepted words, and where neither count of faults rose and nothing was asked that is not
+-- built, the feed is read to its end, or memory was wanting.
+abbrev pub IsComplete : List (List ℕ) → Option (List ℕ) → (reads reads_now writes writes_now : ℕ) → Outcome → Type 0
+IsComplete words source reads reads_now writes writes_now outcome =
+    (bytes : List ℕ) → source ≡ Some bytes → IsGoodFeed bytes → workers_of words ≢ None
+    → (Rose reads reads_now → ⊥) → (Rose writes writes_now → ⊥) → outcome.status ≢ status_of NotBuilt
+    → (outcome.status ≡ status_of FeedRead) ⊎ (outcome.status ≡ status_of NoMemory)

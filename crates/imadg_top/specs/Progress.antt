@@ -1,0 +1,116 @@
+-- How far the run of a feed has come.
+use Rattle.std.specs.Prelude.{◌≡◌, ℕ, ◌+◌, ◌≤◌, List, [], ◌∷◌, ◌++◌, length, Option, Result, Ok, Err, ◌⊎◌}
+use Rattle.std.specs.List.{AllByRecursion}
+use Rattle.std.specs.Io.KnownBytes.{Appends}
+use Rattle.adg_base.specs.declared.vector.RedoRecord.{RedoRecord}
+use Rattle.adg_base.specs.declared.answer.Lines.{Lines}
+use Rattle.adg_io.specs.Faults.{Rose}
+use Rattle.adg_model.specs.declared.delivery.RawDelivery.{RawDelivery}
+use Rattle.adg_model.specs.declared.fault.FeedKind.{FeedKind}
+use Rattle.adg_model.specs.declared.fault.FeedKind.TheVariants as kinds
+use Rattle.adg_model.specs.Feed.{Item, IsFeed, start, after_deliveries}
+use Rattle.adg_model.specs.Records.{thread_text}
+use Rattle.adg_model.specs.Transcript.{LegalFrom, printed}
+use Rattle.feed_frames.specs.State.{FeedState}
+use Rattle.feed_frames.specs.declared.phase.Phase.TheVariants.{Open}
+use Rattle.feed_frames.specs.Intake.{Took}
+use Rattle.redo_frames.specs.Assembly.{next_number}
+use Rattle.imadg_top.specs.declared.applier.Standby.{Standby}
+use Rattle.imadg_top.specs.declared.refusal.Refusal.{Refusal}
+use Rattle.imadg_top.specs.declared.refusal.Refusal.TheVariants as refusals
+use Rattle.imadg_top.specs.Headline.{Ending, line_of, status_of, FeedRead, FeedRefused, RedoRefused, SourceFailed, SinkFailed, NoMemory, NotBuilt, Stops, CountsSome, deliveries_of, read_bytes, counted}
+use Rattle.imadg_top.specs.Standby.{HasRun}
+
+-- the end of the last of some lines, or else one before them
+abbrev pub end_after : ℕ → List Lines → ℕ
+end_after floor [] = floor
+end_after floor (l ∷ ls) = end_after l.end ls
+
+-- the lines of deliveries were printed, and the last ends at an SCN
+pub record Transcribed (sessions : ℕ) (deliveries : List RawDelivery) (output : List ℕ) (end : ℕ) : Type 0 where
+  pub lines : List Lines
+  pub legal : LegalFrom 1 sessions [] 0 deliveries lines
+  pub print : output ≡ printed 1 lines
+  pub last : end_after 0 lines ≡ end
+  pub count : length lines ≡ length deliveries
+
+-- The reader stands before a delivery, and those before it were run.
+pub record IsAt (source from sink held : Option (List ℕ)) (sessions : ℕ) (reader : FeedState) (standby : Standby) (written : ℕ) : Type 0 where
+  pub deliveries : List (List Item)
+  pub records : List RedoRecord
+  pub output : List ℕ
+  pub feed : IsFeed 1 sessions deliveries
+  pub phase : reader.phase ≡ Open
+  pub standing : reader.standing ≡ after_deliveries (start 1 sessions) deliveries
+  pub took : Took source from 0 reader.taken (read_bytes sessions deliveries)
+  pub run : HasRun standby (thread_text 1 (deliveries_of deliveries)) records
+  pub numbers : next_number standby.assembler ≤ 1 + reader.standing.redo
+  pub delivered : standby.delivered ≡ length deliveries
+  pub transcribed : Transcribed sessions (deliveries_of deliveries) output standby.frontier
+  pub counts : AllByRecursion (λ d. AllByRecursion CountsSome d.commands) (deliveries_of deliveries)
+  pub wrote : Appends sink held output
+  pub written_count : written ≡ counted output
+
+-- how a run ends that was refused so
+abbrev pub feed_ending : FeedKind → ℕ → Ending
+feed_ending kinds.Read byte = SourceFailed
+feed_ending kinds.Memory byte = NoMemory
+feed_ending kind byte = FeedRefused kind byte
+
+abbrev pub ending_of : Result (Unit {0}) Refusal → Ending
+ending_of (Ok done) = FeedRead
+ending_of (Err (refusals.Feed fault)) = feed_ending fault.kind fault.byte
+ending_of (Err (refusals.Redo fault)) = RedoRefused fault
+ending_of (Err refusals.NotBuilt) = NotBuilt
+ending_of (Err refusals.Write) = SinkFailed
+ending_of (Err refusals.Memory) = NoMemory
+
+-- the run of a feed stopped with a result: what it took and wrote until then
+pub record RunStops (source from sink held : Option (List ℕ)) (taken written : ℕ) (ending : Ending) : Type 0 where
+  pub bytes : List ℕ
+  pub output : List ℕ
+  pub took : Took source from 0 taken bytes
+  pub wrote : Appends sink held output
+  pub written_count : written ≡ counted output
+  pub stops : Stops ending source bytes output
+
+-- the count of faults of the source or of the sink rose where it ended the run
+pub record HasCauses (ending : Ending) (reads reads_now writes writes_now : ℕ) : Type 0 where
+  pub read_fault : ending ≡ SourceFailed → Rose reads reads_now
+  pub write_fault : ending ≡ SinkFailed → Rose writes writes_now
+  pub writes_later : writes ≤ writes_now
+
+-- a piece was written, or a front of it where the sink failed
+pub record WroteFront (sink held : Option (List ℕ)) (before after : ℕ) (piece : List ℕ) (writes writes_now : ℕ) : Type 0 where
+  pub front : List ℕ
+  pub cut : List ℕ
+  pub split : front ++ cut ≡ piece
+  pub wrote : Appends sink held front
+  pub count : (output : List ℕ) → before ≡ counted output → after ≡ counted (output ++ front)
+  pub fault : Rose writes writes_now
+  pub later : writes ≤ writes_now
+
+pub record WrotePiece (sink held : Option (List ℕ)) (before after : ℕ) (piece : List ℕ) (writes writes_now : ℕ) : Type 0 where
+  pub wrote : Appends sink held piece
+  pub count : (output : List ℕ) → before ≡ counted output → after ≡ counted (output ++ piece)
+  pub no_fault : writes_now ≡ writes
+
+abbrev pub Writes : (sink held : Option (List ℕ)) (before after : ℕ) (piece : List ℕ) (writes writes_now : ℕ) → Result (Unit {0}) Refusal → Type 0
+Writes sink held before after piece writes writes_now (Ok done) = WrotePiece sink held before after piece writes writes_now
+Writes sink held before after piece writes writes_now (Err (refusals.Feed fault)) = ⊥
+Writes sink held before after piece writes writes_now (Err (refusals.Redo fault)) = ⊥
+Writes sink held before after piece writes writes_now (Err refusals.NotBuilt) = ⊥
+Writes sink held before after piece writes writes_now (Err refusals.Write) = WroteFront sink held before after piece writes writes_now
+Writes sink held before after piece writes writes_now (Err refusals.Memory) = ⊥
+
+-- A line was written whole, and the status is its own; or a front of it, and the status is that of a failed sink.
+abbrev pub Tells : (sink held : Option (List ℕ)) (before after : ℕ) (line : List ℕ) (writes writes_now status result : ℕ) → Type 0
+Tells sink held before after line writes writes_now status result =
+    (WrotePiece sink held before after line writes writes_now × (result ≡ status))
+    ⊎ (WroteFront sink held before after line writes writes_now × (result ≡ status_of SinkFailed))
+
+-- The line of an ending was told; or nothing was written for want of memory.
+abbrev pub IsEnded : Ending → (sink held : Option (List ℕ)) (before after writes writes_now result : ℕ) → Type 0
+IsEnded ending sink held before after writes writes_now result =
+    Tells sink held before after (line_of ending) writes writes_now (status_of ending) result
+    ⊎ (WrotePiece sink held before after [] writes writes_now × (result ≡ status_of NoMemory))

@@ -1,0 +1,384 @@
+use crate::outcome::Outcome;
+use crate::top::{standby, stepped};
+use adg_io::gate::OpenGate;
+use adg_io::memory_sink::MemSink;
+use adg_io::memory_source::MemSource;
+use std::alloc::Global;
+use std::process::Abort;
+use std::test::Fail;
+
+/// A feed of one thread and one session with two deliveries: redo, and a command.
+const FEED: [u8; 139] = *b"IMADG01\nH\0\0\0\x02\x01\x01\
+R\0\0\0\x4e\x01\0\x15\0\0\0\0\0\0\0\x0a\x01\x07\0\x01\0\x01\x01\x01\x01\0\x15\
+\0\x38\0\0\0\0\0\0\0\x0b\x03\x01\0\0\0\0\0\0\0\x07\
+\x02\0\0\0\0\0\0\0\x07\0\x01\0\0\0\x01\x01\0\0\0\0\0\0\0\x05\
+\x05\0\0\0\0\0\0\0\x07\x01\0\x38\
+E\0\0\0\0Q\0\0\0\x15\x01SELECT COUNT FROM t1E\0\0\0\0X\0\0\0\0";
+
+const ANSWER: &str = "d1 end scn=11\nd2 s1 c1 scn=11 rows=1 col=0 row=1\n= 1\nd2 end scn=11\n";
+
+const ONE_WORKER: [&str; 3] = ["step", "--workers", "1"];
+
+/// How many bytes a call gives and takes, and the number of the call that fails, 0 for none.
+#[derive(Clone, Copy)]
+struct Outside {
+    gives: usize,
+    failing_read: u64,
+    takes: usize,
+    failing_write: u64,
+}
+
+const CALM: Outside = Outside {
+    gives: 100_000,
+    failing_read: 0,
+    takes: 4_096,
+    failing_write: 0,
+};
+
+fn words_of(alloc: Global, words: &[&str]) -> Result<Vec<String>, Fail> {
+    let mut owned = Vec::new(alloc);
+    for word in words {
+        let mut text = String::new(alloc);
+        text.push_str(word)?;
+        owned.push(text)?;
+    }
+    Ok(owned)
+}
+
+fn source_of(alloc: Global, feed: &[u8], outside: Outside) -> Result<MemSource, Fail> {
+    let failing = Vec::from_slice(alloc, &[outside.failing_read])?;
+    Ok(MemSource::new(Vec::from_slice(alloc, feed)?, outside.gives, failing))
+}
+
+fn sink_of(alloc: Global, outside: Outside) -> Result<MemSink, Fail> {
+    let failing = Vec::from_slice(alloc, &[outside.failing_write])?;
+    Ok(MemSink::new(alloc, 4_096, outside.takes, failing)?)
+}
+
+/// Runs a feed, and compares its status, what was taken and what was written.
+fn assert_runs(
+    rt: &impl Abort,
+    alloc: Global,
+    words: &[&str],
+    feed: &[u8],
+    outside: Outside,
+    wanted: (u8, u64, &str),
+) -> Result<(), Fail> {
+    let (status, taken, written) = wanted;
+    let words = words_of(alloc, words)?;
+    let mut source = source_of(alloc, feed, outside)?;
+    let mut sink = sink_of(alloc, outside)?;
+    let outcome = stepped(alloc, words.as_slice(), &mut source, &mut sink);
+    let ended = Outcome {
+        status,
+        taken,
+        written: written.len() as u64,
+    };
+    assert_eq!(rt; outcome, ended, "{written}");
+    assert_eq!(rt; sink.held(), written.as_bytes(), "{written}");
+    let left = (feed.len() as u64).saturating_sub(taken);
+    assert_eq!(rt; source.left().len() as u64, left, "{written}");
+    Ok(())
+}
+
+/// The feed with these bytes in the place of its own.
+fn damaged(alloc: Global, len: usize, damage: &[(usize, u8)]) -> Result<Vec<u8>, Fail> {
+    let mut feed = Vec::from_slice(alloc, FEED.as_slice())?;
+    feed.truncate(len);
+    for (at, byte) in damage {
+        if *at < feed.len() {
+            feed[*at] = *byte;
+        }
+    }
+    Ok(feed)
+}
+
+#[test]
+fn names_each_damage(rt: HostRuntime) -> Result<(), Fail> {
+    let rows: [(usize, &[(usize, u8)], u8, u64, &str); 14] = [
+        (139, &[], 0, 139, ANSWER),
+        (0, &[], 2, 0, "feed refused: Truncated at byte 0\n"),
+        (60, &[], 2, 60, "feed refused: Truncated at byte 60\n"),
+        (
+            138,
+            &[],
+            2,
+            138,
+            "d1 end scn=11\nd2 s1 c1 scn=11 rows=1 col=0 row=1\n= 1\nd2 end scn=11\nfeed refused: Truncated at byte 138\n",
+        ),
+        (
+            139,
+            &[(15, 0x5a)],
+            2,
+            16,
+            "feed refused: BadTag at byte 15\n",
+        ),
+        (
+            139,
+            &[(13, 0x00)],
+            2,
+            14,
+            "feed refused: BadThread at byte 8\n",
+        ),
+        (
+            139,
+            &[(16, 0x02), (19, 0x01)],
+            2,
+            20,
+            "feed refused: TooLarge at byte 15\n",
+        ),
+        (139, &[(13, 0x02)], 7, 15, "not built yet\n"),
+        (
+            139,
+            &[(97, 0x39)],
+            3,
+            103,
+            "redo refused: thread 1 record 2 BadTrailer\n",
+        ),
+        (
+            139,
+            &[(41, 0x16), (97, 0x39)],
+            3,
+            103,
+            "redo refused: thread 1 record 1 BadTrailer\n",
+        ),
+        (
+            139,
+            &[(62, 0x0d)],
+            3,
+            103,
+            "redo refused: thread 1 record 2 vector 2 BadVector\n",
+        ),
+        (139, &[(95, 0x00)], 7, 103, "not built yet\n"),
+        (
+            139,
+            &[(128, 0x32)],
+            0,
+            139,
+            "d1 end scn=11\nd2 s1 c1 scn=11 refused NoTable\nd2 end scn=11\n",
+        ),
+        (
+            139,
+            &[(109, 0x54)],
+            7,
+            134,
+            "d1 end scn=11\nnot built yet\n",
+        ),
+    ];
+    for (len, damage, status, taken, written) in rows {
+        let feed = damaged(rt.alloc(), len, damage)?;
+        for gives in [1, 7, 100_000] {
+            let outside = Outside { gives, ..CALM };
+            let wanted = (status, taken, written);
+            assert_runs(
+                &rt,
+                rt.alloc(),
+                &ONE_WORKER,
+                feed.as_slice(),
+                outside,
+                wanted,
+            )?;
+        }
+    }
+    Ok(())
+}
+
+#[test]
+fn names_each_truncation(rt: HostRuntime) -> Result<(), Fail> {
+    for len in 0..139 {
+        let before = if len < 103 {
+            ""
+        } else if len < 134 {
+            "d1 end scn=11\n"
+        } else {
+            ANSWER
+        };
+        let written = format!(in rt.alloc(); "{before}feed refused: Truncated at byte {len}\n")?;
+        let feed = damaged(rt.alloc(), len, &[])?;
+        let wanted = (2, len as u64, written.as_str());
+        assert_runs(&rt, rt.alloc(), &ONE_WORKER, feed.as_slice(), CALM, wanted)?;
+    }
+    Ok(())
+}
+
+#[test]
+fn yields_to_the_outside(rt: HostRuntime) -> Result<(), Fail> {
+    for (gives, failing_read, takes, failing_write, status, taken, written) in [
+        (1, 0, 1, 0, 0, 139, ANSWER),
+        (100_000, 3, 4_096, 0, 4, 9, ""),
+        (100_000, 12, 4_096, 0, 4, 103, "d1 end scn=11\n"),
+        (100_000, 0, 7, 2, 5, 103, "d1 end "),
+        (100_000, 0, 4_096, 2, 5, 134, "d1 end scn=11\n"),
+    ] {
+        let outside = Outside {
+            gives,
+            failing_read,
+            takes,
+            failing_write,
+        };
+        let wanted = (status, taken, written);
+        assert_runs(
+            &rt,
+            rt.alloc(),
+            &ONE_WORKER,
+            FEED.as_slice(),
+            outside,
+            wanted,
+        )?;
+    }
+    let feed = damaged(rt.alloc(), 60, &[])?;
+    let outside = Outside {
+        takes: 5,
+        failing_write: 2,
+        ..CALM
+    };
+    assert_runs(
+        &rt,
+        rt.alloc(),
+        &ONE_WORKER,
+        feed.as_slice(),
+        outside,
+        (5, 60, "feed "),
+    )?;
+
+    let words = words_of(rt.alloc(), &ONE_WORKER)?;
+    let mut source = source_of(rt.alloc(), FEED.as_slice(), CALM)?;
+    let mut sink = sink_of(rt.alloc(), CALM)?;
+    let outcome = standby(
+        &rt,
+        rt.alloc(),
+        words.as_slice(),
+        &mut source,
+        &mut sink,
+        &OpenGate,
+    );
+    assert_eq!(rt; outcome.status, 0);
+    assert_eq!(rt; sink.held(), ANSWER.as_bytes());
+    Ok(())
+}
+
+#[test]
+fn accepts_exactly_its_words(rt: HostRuntime) -> Result<(), Fail> {
+    const USAGE: &str = "usage: imadg step|run|soak|audit [--workers N] [--seed N] [--txns N]\n";
+    let accepted: [&[&str]; 4] = [
+        &["step", "--workers", "1"],
+        &["step", "--workers", "8"],
+        &["step", "--workers=1"],
+        &["step", "--workers=8"],
+    ];
+    for words in accepted {
+        assert_runs(
+            &rt,
+            rt.alloc(),
+            words,
+            FEED.as_slice(),
+            CALM,
+            (0, 139, ANSWER),
+        )?;
+    }
+    let refused: [&[&str]; 14] = [
+        &[],
+        &["step"],
+        &["step", "--workers"],
+        &["step", "--workers", ""],
+        &["step", "--workers", "0"],
+        &["step", "--workers", "9"],
+        &["step", "--workers", "08"],
+        &["step", "--workers", "1 "],
+        &["step", "--workers=08"],
+        &["step", "--workers="],
+        &["run", "--workers", "1"],
+        &["step", "--seed", "1"],
+        &["step", "--workers=1", "--workers=1"],
+        &["step", "--workers", "1", "--workers=1"],
+    ];
+    for words in refused {
+        assert_runs(&rt, rt.alloc(), words, FEED.as_slice(), CALM, (1, 0, USAGE))?;
+    }
+    Ok(())
+}
+
+/// Appends a frame.
+fn push_frame(feed: &mut Vec<u8>, tag: u8, payload: &[u8]) -> Result<(), Fail> {
+    let len = u32::try_from(payload.len())?;
+    feed.push(tag)?;
+    feed.extend_from_slice(&len.to_be_bytes())?;
+    feed.extend_from_slice(payload)?;
+    Ok(())
+}
+
+/// Appends redo of thread 1 in frames of at most so many bytes.
+fn push_redo(alloc: Global, feed: &mut Vec<u8>, redo: &[u8], most: usize) -> Result<(), Fail> {
+    for piece in redo.chunks(most.max(1)) {
+        let mut payload = Vec::from_slice(alloc, &[1])?;
+        payload.extend_from_slice(piece)?;
+        push_frame(feed, b'R', payload.as_slice())?;
+    }
+    Ok(())
+}
+
+/// The redo of the feed up to each place in its own delivery, in frames of at most so many bytes,
+/// and then its command.
+fn cut_feed(alloc: Global, places: &[usize], most: usize) -> Result<Vec<u8>, Fail> {
+    let mut feed = Vec::from_slice(alloc, &FEED.as_slice()[..15])?;
+    let mut redo = &FEED.as_slice()[21..98];
+    let mut from = 0;
+    for place in places {
+        let (piece, rest) = redo
+            .split_at_checked(place.saturating_sub(from))
+            .ok_or("no place")?;
+        push_redo(alloc, &mut feed, piece, most)?;
+        push_frame(&mut feed, b'E', &[])?;
+        redo = rest;
+        from = *place;
+    }
+    feed.extend_from_slice(&FEED.as_slice()[103..])?;
+    Ok(feed)
+}
+
+#[test]
+fn takes_redo_cut_anywhere(rt: HostRuntime) -> Result<(), Fail> {
+    let rows: [(&[usize], usize, u64, &str); 4] = [
+        (&[77], 100, 139, ANSWER),
+        (&[77], 1, 595, ANSWER),
+        (
+            &[21, 76, 77],
+            100,
+            161,
+            "d1 end scn=10\nd2 end scn=10\nd3 end scn=11\nd4 s1 c1 scn=11 rows=1 col=0 row=1\n= 1\nd4 end scn=11\n",
+        ),
+        (
+            &[76],
+            100,
+            138,
+            "d1 end scn=10\nd2 s1 c1 scn=10 rows=1 col=0 row=0\n= 0\nd2 end scn=10\n",
+        ),
+    ];
+    for (places, most, taken, written) in rows {
+        let feed = cut_feed(rt.alloc(), places, most)?;
+        assert_runs(
+            &rt,
+            rt.alloc(),
+            &ONE_WORKER,
+            feed.as_slice(),
+            CALM,
+            (0, taken, written),
+        )?;
+    }
+
+    let mut feed = Vec::from_slice(rt.alloc(), &FEED.as_slice()[..15])?;
+    let schedule = vec![in rt.alloc(); 0; 33_554_432]?;
+    push_frame(&mut feed, b'S', schedule.as_slice())?;
+    push_frame(&mut feed, b'E', &[])?;
+    push_frame(&mut feed, b'X', &[])?;
+    let taken = feed.len() as u64;
+    assert_runs(
+        &rt,
+        rt.alloc(),
+        &ONE_WORKER,
+        feed.as_slice(),
+        CALM,
+        (0, taken, "d1 end scn=0\n"),
+    )?;
+    Ok(())
+}
