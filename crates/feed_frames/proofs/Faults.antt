@@ -1,6 +1,7 @@
 -- What the definitions of a frame's faults say of its bytes, as they come.
-use Rattle.std.proofs.Common.{◌≡◌, ℕ, ◌-◌, ◌^◌, ◌<◌, Bool, true, false, List, [], ◌∷◌, ◌++◌, length, take, Option, Some, None, refl, arith}
+use Rattle.std.proofs.Common.{◌≡◌, ℕ, ◌-◌, ◌^◌, ◌<◌, Bool, true, false, List, [], ◌∷◌, ◌++◌, length, take, Option, Some, None, inl, inr, refl, sym, subst, arith}
 use Rattle.std.specs.Int.{w32, to_be_bytes}
+use Rattle.std.proofs.lemmas.List.{length-take}
 use Rattle.std.proofs.lemmas.Nat.{from_be_bytes-to_be_bytes_4}
 use Rattle.std.proofs.lemmas.Grind.{common_steps}
 use Rattle.adg_model.specs.Feed.{Item, Standing, IsCut, fails, ◌else_check◌, frame_fault, tag_fault, length_fault, payload_fault, has_length, stated}
@@ -34,10 +35,27 @@ fails_none true k h = cc
 
 -- ---- why a frame stops
 
+-- what is cut short is so without its last byte too
+pub but_last : (x : ℕ) (xs : List ℕ) → length (x ∷ xs) - 1 ≡ length xs
+but_last x xs = omega arith
+
+cut_front : (tag : ℕ) (rest : List ℕ) → IsCut (tag ∷ rest) → IsCut (take (length rest) (tag ∷ rest))
+cut_front tag [] c = tt
+cut_front tag (a ∷ []) c = inl (omega arith)
+cut_front tag (a ∷ b ∷ []) c = inl (omega arith)
+cut_front tag (a ∷ b ∷ d ∷ []) c = inl (omega arith)
+cut_front tag (a ∷ b ∷ d ∷ e ∷ []) c = inl (omega arith)
+cut_front tag (a ∷ b ∷ d ∷ e ∷ f ∷ rest) (inl few) = absurd (omega (arith, few))
+cut_front tag (a ∷ b ∷ d ∷ e ∷ f ∷ rest) (inr few) = inr (omega (arith, few, length-take (length rest) (f ∷ rest)))
+
+pub still_cut : (bytes : List ℕ) → IsCut bytes → IsCut (take (length bytes - 1) bytes)
+still_cut [] c = tt
+still_cut (tag ∷ rest) c = subst (λ (n : ℕ). IsCut (take n (tag ∷ rest))) (sym (but_last tag rest)) (cut_front tag rest c)
+
 pub missing_stops : (k : FeedKind) (check : List ℕ → Option FeedKind) (left : Option (List ℕ)) (bytes : List ℕ) → IsMissing k left → check bytes ≡ None → IsCut bytes → FrameStops k check left bytes
 missing_stops kind.Truncated check left bytes m n c = (n, c, m)
-missing_stops kind.Read check left bytes m n c = n
-missing_stops kind.Memory check left bytes m n c = n
+missing_stops kind.Read check left bytes m n c = (n, c)
+missing_stops kind.Memory check left bytes m n c = (n, still_cut bytes c)
 missing_stops kind.BadMagic check left bytes m n c = absurd m
 missing_stops kind.BadTag check left bytes m n c = absurd m
 missing_stops kind.BadOrder check left bytes m n c = absurd m

@@ -1,6 +1,7 @@
 -- A frame that stops at one of its stages: before or at its tag, in or at its length, in its payload.
-use Rattle.std.proofs.Common.{◌≡◌, ℕ, ◌+◌, ◌^◌, ◌<◌, ◌≤◌, List, [], ◌∷◌, ◌++◌, length, take, Option, Some, None, refl, ◌∙◌, inl, inr, arith, length-append}
+use Rattle.std.proofs.Common.{◌≡◌, ℕ, ◌+◌, ◌^◌, ◌<◌, ◌≤◌, List, [], ◌∷◌, ◌++◌, length, take, Option, Some, None, ◌-◌, refl, sym, subst, ◌∙◌, inl, inr, arith, length-append}
 use Rattle.std.specs.Int.{w32, to_be_bytes}
+use Rattle.std.proofs.lemmas.List.{length-take}
 use Rattle.std.proofs.lemmas.Nat.{from_be_bytes-to_be_bytes_4}
 use Rattle.adg_model.specs.Feed.{Item, Standing, IsCut, frame_fault, tag_fault, length_fault, payload_fault, stated}
 use Rattle.adg_model.specs.declared.fault.FeedKind.{FeedKind}
@@ -9,7 +10,7 @@ use Rattle.feed_frames.specs.Intake.{Took, Misses}
 use Rattle.feed_frames.specs.Counts.{IsShown}
 use Rattle.feed_frames.specs.Frames.{StopsAfter}
 use Rattle.feed_frames.proofs.Taking.{took_none, took_both}
-use Rattle.feed_frames.proofs.Faults.{missing_stops, shown_stops, no_bytes, short_fault, head_fault, none_first, then_none}
+use Rattle.feed_frames.proofs.Faults.{missing_stops, shown_stops, no_bytes, short_fault, head_fault, none_first, then_none, but_last}
 
 pub no_length : (bytes : List ℕ) → length bytes < 1 → bytes ≡ []
 no_length [] h = refl
@@ -92,7 +93,17 @@ at_first {a} {b} {m} {n} {tag} {len} {first} {k} {st} {before} h took fault show
   stops = shown_stops k (frame_fault st before) b (tag ∷ to_be_bytes w32 len ++ first ∷ []) shown (payload_only h (first ∷ []) ∙ fault) (payload_only h []);
 }
 
+-- without its last byte the frame is cut short
+cut_last : (tag len : ℕ) (payload : List ℕ) → len < 2 ^ 32 → length payload ≤ len → (frame : List ℕ) → frame ≡ to_be_bytes w32 len ++ payload → IsCut (take (length (tag ∷ frame) - 1) (tag ∷ frame))
+cut_last tag len payload small fits frame e =
+    subst (λ (n : ℕ). IsCut (take n (tag ∷ frame))) (sym (but_last tag frame))
+    (rw e (cut payload fits))
+  where
+    cut : (p : List ℕ) → length p ≤ len → IsCut (take (length (to_be_bytes w32 len ++ p)) (tag ∷ to_be_bytes w32 len ++ p))
+    cut [] short = inl (omega arith)
+    cut (x ∷ xs) short = cut_payload tag len (take (length xs) (x ∷ xs)) small (omega (arith, short, length-take (length xs) (x ∷ xs)))
+
 -- memory was wanting after the payload
-pub no_memory : {a b : Option (List ℕ)} {m n tag len : ℕ} {st : Standing} {before : List Item} (payload : List ℕ) (h : Headed st before tag len) → Took a b m n payload → payload_fault st before tag payload ≡ None
+pub no_memory : {a b : Option (List ℕ)} {m n tag len : ℕ} {st : Standing} {before : List Item} (payload : List ℕ) (h : Headed st before tag len) → Took a b m n payload → length payload ≤ len → payload_fault st before tag payload ≡ None
     → StopsAfter (tag ∷ to_be_bytes w32 len) (frame_fault st before) a b m n kind.Memory
-no_memory payload h took good = record { bytes = payload; took = took; stops = payload_only h payload ∙ good }
+no_memory {a} {b} {m} {n} {tag} {len} {st} {before} payload h took fits good = record { bytes = payload; took = took; stops = (payload_only h payload ∙ good, cut_last tag len payload h.small fits _ refl) }

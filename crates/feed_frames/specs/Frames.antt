@@ -17,12 +17,12 @@ use Rattle.feed_frames.specs.Intake.{Took, fault_byte}
 use Rattle.feed_frames.specs.Counts.{IsCountOf, standing_of, tag_byte}
 
 -- The reading of a frame stopped after these of its bytes. A check found its fault in them, and not
--- before the last of them had come; or the input ended inside the frame; or the source failed or
--- memory was wanting, where no check had found a fault.
+-- before the last of them had come; or the input ended or the source failed inside the frame, or
+-- memory was wanting before more than the frame had come, where no check had found a fault.
 abbrev pub FrameStops : FeedKind → (List ℕ → Option FeedKind) → Option (List ℕ) → List ℕ → Type 0
 FrameStops Truncated check left bytes = (check bytes ≡ None) × IsCut bytes × IsAtEnd left
-FrameStops Read check left bytes = check bytes ≡ None
-FrameStops Memory check left bytes = check bytes ≡ None
+FrameStops Read check left bytes = (check bytes ≡ None) × IsCut bytes
+FrameStops Memory check left bytes = (check bytes ≡ None) × IsCut (take (length bytes - 1) bytes)
 FrameStops kind check left bytes = (check bytes ≡ Some kind) × (check (take (length bytes - 1) bytes) ≡ None)
 
 -- the same, where those after the first few of its bytes were taken by a call

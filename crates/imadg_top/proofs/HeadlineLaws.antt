@@ -1,5 +1,5 @@
 -- The headline, from how the run of a feed stopped and what was written to end it.
-use Rattle.std.proofs.Common.{◌≡◌, ◌≢◌, ◌++◌, ◌+◌, ◌-◌, ◌≤◌, ℕ, List, [], length, Option, Some, None, IfSome, ◌∷◌, append_assoc, append-nil, ◌∙◌, ap, sym, subst, refl, arith, zero-add, inl, inr, ◌⊎◌, Err}
+use Rattle.std.proofs.Common.{◌≡◌, ◌≢◌, ◌++◌, ◌≤◌, ℕ, List, [], length, Option, Some, None, IfSome, ◌∷◌, append_assoc, append-nil, ◌∙◌, ap, sym, subst, refl, arith, zero-add, inl, inr, ◌⊎◌, Err}
 use Rattle.std.specs.Io.KnownBytes.{Consumes}
 use Rattle.adg_io.specs.Faults.{Rose}
 use Rattle.adg_model.specs.declared.fault.FeedKind.{FeedKind}
@@ -8,7 +8,7 @@ use Rattle.imadg_top.specs.declared.outcome.Outcome.{Outcome}
 use Rattle.imadg_top.specs.declared.refusal.Refusal.{Refusal}
 use Rattle.imadg_top.specs.declared.refusal.Refusal.TheVariants as refusals
 use Rattle.imadg_top.specs.Words.{workers_of, usage_line}
-use Rattle.imadg_top.specs.Headline.{Ending, FeedRead, WordsRefused, FeedRefused, RedoRefused, SourceFailed, SinkFailed, NoMemory, NotBuilt, Stops, SoFar, IsCutTranscript, Ends, Headline, IsGoodFeed, IsComplete, HasRedoFault, deliveries_of, line_of, status_of, counted}
+use Rattle.imadg_top.specs.Headline.{Ending, FeedRead, WordsRefused, FeedRefused, RedoRefused, SourceFailed, SinkFailed, NoMemory, NotBuilt, Stops, HasMostSoFar, IsCutTranscript, Ends, Headline, IsGoodFeed, IsComplete, HasRedoFault, deliveries_of, line_of, status_of, counted}
 use Rattle.imadg_top.specs.Progress.{RunStops, HasCauses, WroteFront, WrotePiece, Writes, Tells, IsEnded, feed_ending}
 use Rattle.adg_model.specs.declared.fault.RedoFault.{RedoFault}
 use Rattle.adg_model.specs.Feed.{Item, FeedFails}
@@ -72,7 +72,7 @@ ends-of words workers e (FeedRefused kind byte) source taken output s = (workers
 ends-of words workers e (RedoRefused fault) source taken output s = (workers, e, record { before = output; stops = s; then_line = refl })
 ends-of words workers e SourceFailed source taken output s = (workers, e, record { before = output; stops = s; then_line = refl })
 ends-of words workers e SinkFailed source taken output s = inr (workers, e, inl (subst (IsCutTranscript taken) (sym (append-nil output)) s))
-ends-of words workers e NoMemory source taken output s = (workers, e, inl (subst (SoFar taken) (sym (append-nil output)) s))
+ends-of words workers e NoMemory source taken output s = (workers, e, inl (subst (HasMostSoFar taken) (sym (append-nil output)) s))
 ends-of words workers e NotBuilt source taken output s = (workers, e, record { before = output; stops = s; then_line = refl })
 
 -- the feed was run

@@ -5,6 +5,7 @@ pub mod HeadlineLaws
 pub mod LegalLaws
 pub mod RunLaws
 pub mod StandbyLaws
+pub mod StoppedReading
 pub mod StoreCommit
 pub mod StoreCount
 pub mod StoreKinds

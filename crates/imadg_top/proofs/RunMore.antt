@@ -1,5 +1,5 @@
 -- How the run of a feed goes on and how it stops.
-use Rattle.std.proofs.Common.{◌≡◌, ◌≢◌, ◌++◌, ◌+◌, ◌-◌, ◌≤◌, ◌<◌, ◌^◌, ℕ, List, [], ◌∷◌, length, Option, Some, None, IfSome, append_assoc, append-nil, length-append, ◌∙◌, ap, sym, subst, refl, arith, zero-add, min, inl, inr, Result, Ok, Err}
+use Rattle.std.proofs.Common.{◌⊎◌, ◌≡◌, ◌≢◌, ◌++◌, ◌+◌, ◌-◌, ◌≤◌, ◌<◌, ◌^◌, ℕ, List, [], ◌∷◌, length, Option, Some, None, IfSome, append_assoc, append-nil, length-append, ◌∙◌, ap, sym, subst, refl, arith, zero-add, min, inl, inr, Result, Ok, Err}
 use Rattle.std.specs.List.{AllByRecursion, filter_map}
 use Rattle.std.specs.Io.KnownBytes.{Consumes, Appends}
 use Rattle.adg_base.specs.declared.command.CommandText.{CommandText}
@@ -10,7 +10,7 @@ use Rattle.adg_model.specs.declared.fault.FeedKind.{FeedKind}
 use Rattle.adg_model.specs.declared.fault.FeedKind.TheVariants as kinds
 use Rattle.adg_model.specs.declared.fault.RedoKind.{RedoKind}
 use Rattle.adg_model.specs.declared.fault.RedoKind.TheVariants as redo
-use Rattle.adg_model.specs.Feed.{Item, Standing, IsFeed, IsHeader, IsIn, IsDelivery, FeedFails, DeliveryFails, start, after_delivery, after_deliveries, delivery_of, command_of, redo_total, opening_bytes, deliveries_bytes, delivery_bytes, items_bytes, stop_bytes, most_redo, most_payload, most_deliveries}
+use Rattle.adg_model.specs.Feed.{Item, Standing, AreItems, AreDeliveries, frame_fault, IsFeed, IsHeader, IsIn, IsDelivery, FeedFails, DeliveryFails, start, after_delivery, after_deliveries, delivery_of, command_of, redo_total, opening_bytes, deliveries_bytes, delivery_bytes, items_bytes, stop_bytes, most_redo, most_payload, most_deliveries}
 use Rattle.adg_model.specs.Records.{thread_text, HasBadRecord, record_fault}
 use Rattle.adg_model.specs.Sound.{IsRedoFault}
 use Rattle.adg_model.proofs.FeedLaws.{pieces_room, redo_bound, few_commands, of_first, own_sessions, first_text, deliveries-more, after-more, feed-more, ends_count, after-threads, after-sessions, redo_within}
@@ -20,16 +20,18 @@ use Rattle.feed_frames.specs.declared.fault.FeedFault.{FeedFault}
 use Rattle.feed_frames.specs.Intake.{Took}
 use Rattle.feed_frames.specs.declared.phase.Phase.{Phase}
 use Rattle.feed_frames.specs.declared.reader.Step.{Step}
+use Rattle.feed_frames.specs.Frames.{FrameStops}
 use Rattle.feed_frames.specs.Answers.{ReadHeader, NoHeader, ReadDelivery, ReadEnd, NoDelivery, IsOfBytes, HeaderAnswer, StepAnswer, AnswersDelivery, IsReading}
 use Rattle.redo_frames.specs.Assembly.{next_number}
 use Rattle.imadg_top.specs.declared.applier.Standby.{Standby}
 use Rattle.imadg_top.specs.declared.refusal.Refusal.{Refusal}
 use Rattle.imadg_top.specs.declared.refusal.Refusal.TheVariants as refusals
-use Rattle.imadg_top.specs.Headline.{FeedRead, SinkFailed, NotBuilt, Stops, RanAll, HasFeedFault, SoFar, CountsSome, deliveries_of, read_bytes, counted}
+use Rattle.imadg_top.specs.Headline.{HasOpeningAtMost, HasSoFar, HasAllSoFar, HasMostSoFar, FeedRead, SinkFailed, NotBuilt, Stops, RanAll, HasFeedFault, CountsSome, deliveries_of, read_bytes, counted}
 use Rattle.imadg_top.specs.Progress.{IsAt, Transcribed, RunStops, WroteFront, WrotePiece, Writes, feed_ending, ending_of}
 use Rattle.imadg_top.specs.Standby.{HasRun, IsDelivered, DeliveryStops, HasUntaken, AsksOther}
 use Rattle.imadg_top.specs.Thread.{pieces_bytes, IsBadRecord}
 use Rattle.imadg_top.proofs.RunLaws.{sound-run}
+use Rattle.imadg_top.proofs.StoppedReading.{opening-at-most, no-delivery, one-delivery, same-delivery}
 use Rattle.imadg_top.proofs.StandbyLaws.{has-records}
 use Rattle.imadg_top.proofs.TranscriptMore.{transcribed-more, delivered_counts}
 
@@ -242,19 +244,20 @@ stop-end source from to sink held sessions old new standby written at r = record
 }
 
 -- a fault by its kind
-by_kind : (kind : FeedKind) (byte : ℕ) (source : Option (List ℕ)) (taken written : List ℕ) → (IsOfBytes kind → HasFeedFault source kind byte written) → SoFar taken written → Stops (feed_ending kind byte) source taken written
-by_kind kinds.BadMagic byte source taken written f s = f tt
-by_kind kinds.BadTag byte source taken written f s = f tt
-by_kind kinds.BadOrder byte source taken written f s = f tt
-by_kind kinds.BadLength byte source taken written f s = f tt
-by_kind kinds.TooLarge byte source taken written f s = f tt
-by_kind kinds.TooManyDeliveries byte source taken written f s = f tt
-by_kind kinds.BadThread byte source taken written f s = f tt
-by_kind kinds.BadSession byte source taken written f s = f tt
-by_kind kinds.TooManyCommands byte source taken written f s = f tt
-by_kind kinds.Truncated byte source taken written f s = f tt
-by_kind kinds.Read byte source taken written f s = s
-by_kind kinds.Memory byte source taken written f s = s
+by_kind : (kind : FeedKind) (byte : ℕ) (source : Option (List ℕ)) (taken written : List ℕ) → (IsOfBytes kind → HasFeedFault source kind byte written)
+    → (kind ≡ kinds.Read → HasOpeningAtMost taken written ⊎ HasAllSoFar taken written) → (kind ≡ kinds.Memory → HasMostSoFar taken written) → Stops (feed_ending kind byte) source taken written
+by_kind kinds.BadMagic byte source taken written f r m = f tt
+by_kind kinds.BadTag byte source taken written f r m = f tt
+by_kind kinds.BadOrder byte source taken written f r m = f tt
+by_kind kinds.BadLength byte source taken written f r m = f tt
+by_kind kinds.TooLarge byte source taken written f r m = f tt
+by_kind kinds.TooManyDeliveries byte source taken written f r m = f tt
+by_kind kinds.BadThread byte source taken written f r m = f tt
+by_kind kinds.BadSession byte source taken written f r m = f tt
+by_kind kinds.TooManyCommands byte source taken written f r m = f tt
+by_kind kinds.Truncated byte source taken written f r m = f tt
+by_kind kinds.Read byte source taken written f r m = r refl
+by_kind kinds.Memory byte source taken written f r m = m refl
 
 later : (source from : Option (List ℕ)) (sessions : ℕ) (ds : List (List Item)) (offset : ℕ) (st : Standing) (kind : FeedKind) (byte : ℕ) → IsFeed 1 sessions ds → st ≡ after_deliveries (start 1 sessions) ds
     → Took source from 0 offset (read_bytes sessions ds) → IfSome from (λ left. DeliveryFails st offset left kind byte) → IfSome source (λ bytes. FeedFails bytes 1 sessions ds kind byte)
@@ -272,6 +275,16 @@ pub stop-fault : (source from to sink held : Option (List ℕ)) (sessions : ℕ)
     → NoDelivery old new from to fault → RunStops source to sink held new.taken written (feed_ending fault.kind fault.byte)
 stop-fault source from to sink held sessions old new standby written fault at r =
     let ran = ran-all source from sink held sessions old standby written at in
+    let items = subst (λ (st : Standing). AreItems st [] r.before) at.standing r.items in
+    let stops = subst (λ (st : Standing). FrameStops fault.kind (frame_fault st r.before) to r.rest) at.standing r.stops in
+    let so_far : HasSoFar (read_bytes sessions at.deliveries ++ (items_bytes r.before ++ r.rest)) at.output = record {
+      sessions = sessions;
+      deliveries = at.deliveries;
+      more = items_bytes r.before ++ r.rest;
+      feed = at.feed;
+      read = refl;
+      ran = ran;
+    } in
     record {
       bytes = read_bytes sessions at.deliveries ++ (items_bytes r.before ++ r.rest);
       output = at.output;
@@ -280,7 +293,8 @@ stop-fault source from to sink held sessions old new standby written fault at r 
       written_count = at.written_count;
       stops = by_kind fault.kind fault.byte source _ at.output
           (λ of. record { sessions = sessions; deliveries = at.deliveries; fails = later source from sessions at.deliveries old.taken old.standing fault.kind fault.byte at.feed at.standing at.took (r.first of); ran = ran })
-          (inr (record { sessions = sessions; deliveries = at.deliveries; more = items_bytes r.before ++ r.rest; feed = at.feed; read = refl; ran = ran }));
+          (λ e. inr (record { so_far = so_far; no_more = λ rest b. no-delivery (after_deliveries (start 1 sessions) at.deliveries) r.before r.rest to fault.kind e items stops b.items rest b.is_delivery b.spelled }))
+          (λ e. inr (record { so_far = so_far; at_most = λ rest b. one-delivery (after_deliveries (start 1 sessions) at.deliveries) r.before r.rest to fault.kind (inr e) items stops b.items rest b.is_delivery b.spelled }));
     }
 
 -- nothing was run
@@ -302,7 +316,9 @@ stop-header source to sink new fault r = record {
   took = r.took;
   wrote = appends-none sink;
   written_count = refl;
-  stops = by_kind fault.kind fault.byte source r.bytes [] (λ of. record { sessions = 1; deliveries = []; fails = front source (r.first of); ran = ran-none 1 }) (inl refl);
+  stops = by_kind fault.kind fault.byte source r.bytes [] (λ of. record { sessions = 1; deliveries = []; fails = front source (r.first of); ran = ran-none 1 })
+      (λ e. inl (record { none = refl; at_most = opening-at-most r.bytes to fault (inl e) r.stops }))
+      (λ e. inl (record { none = refl; at_most = opening-at-most r.bytes to fault (inr e) r.stops }));
 }
   where
     front : (s : Option (List ℕ)) → IfSome s (λ left. Rattle.feed_frames.specs.Answers.OpeningFails left fault.kind fault.byte) → IfSome s (λ bytes. FeedFails bytes 1 1 [] fault.kind fault.byte)
@@ -329,6 +345,11 @@ redo-fault ds t n (redo.Frame f) h = record { below = []; records = h.records; r
 redo-fault ds t n (redo.BadVector i) h = record { below = []; records = h.records; received = tt; thread = h.thread; is_thread = omega arith; number = h.number; bad = subst (λ (k : ℕ). HasBadRecord (thread_text k ds) h.records (redo.BadVector i)) (sym h.thread) h.bad }
 redo-fault ds t n (redo.Unsound i c) h = absurd h.bad
 
+-- the last delivery of a feed
+last-delivery : (st : Standing) (ds : List (List Item)) (items : List Item) → AreDeliveries st (ds ++ items ∷ []) → IsDelivery (after_deliveries st ds) items
+last-delivery st [] items h = h.0
+last-delivery st (d ∷ ds) items h = last-delivery (after_delivery st d) ds items h.1
+
 asks-as : (a b : List ℕ) (d e : RawDelivery) → a ≡ b → d ≡ e → AsksOther a d → AsksOther b e
 asks-as a b d e same is h = subst (λ (t : List ℕ). AsksOther t e) same (subst (λ (k : RawDelivery). AsksOther a k) is h)
 
@@ -349,8 +370,10 @@ stops-of source sessions ds items d out text same is feed before ran refusals.No
   unbuilt = inr (asks-as text _ d (delivery_of items) (sym same) (sym is) a);
 })
 stops-of source sessions ds items d out text same is feed before ran refusals.Write h = absurd h
-stops-of source sessions ds items d out text same is feed before ran refusals.Memory h =
-    inr (record { sessions = sessions; deliveries = ds; more = delivery_bytes items; feed = before; read = sym (read-more sessions ds items); ran = ran })
+stops-of source sessions ds items d out text same is feed before ran refusals.Memory h = inr (record {
+  so_far = record { sessions = sessions; deliveries = ds; more = delivery_bytes items; feed = before; read = sym (read-more sessions ds items); ran = ran };
+  at_most = λ rest b. same-delivery (after_deliveries (start 1 sessions) ds) items b.items rest (last-delivery (start 1 sessions) ds items feed.1) b.is_delivery b.spelled;
+})
 
 -- a delivery was read and not run
 pub stop-delivery : (source from to sink held : Option (List ℕ)) (sessions : ℕ) (old new : FeedState) (standby : Standby) (written : ℕ) (d : RawDelivery) (refusal : Refusal)
@@ -394,10 +417,14 @@ stop-write source from to sink held held' sessions old new standby standby' writ
       wrote = appends-join sink held held' at.output wrote.front at.wrote wrote.wrote;
       written_count = wrote.count at.output at.written_count;
       stops = record {
+        sessions = sessions;
+        deliveries = ds;
         whole = at.output ++ printed;
         cut = wrote.cut;
         front = append_assoc at.output wrote.front wrote.cut ∙ ap (λ (t : List ℕ). at.output ++ t) wrote.split;
-        so_far = record { sessions = sessions; deliveries = ds; more = []; feed = ran.one.feed; read = sym (append-nil _); ran = all };
+        feed = ran.one.feed;
+        read = refl;
+        ran = all;
       };
     }
 

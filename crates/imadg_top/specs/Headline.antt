@@ -1,5 +1,5 @@
 -- What a run of the program promises, over its words, its source, its sink and its outcome.
-use Rattle.std.specs.Prelude.{◌≡◌, ◌≢◌, ℕ, ◌+◌, ◌-◌, ◌<◌, ◌^◌, min, List, [], ◌∷◌, ◌++◌, length, map, Option, Some, None, IfSome, ◌⊎◌}
+use Rattle.std.specs.Prelude.{◌≡◌, ◌≢◌, ℕ, ◌-◌, ◌<◌, ◌^◌, min, List, [], ◌∷◌, ◌++◌, length, map, Option, Some, None, IfSome, ◌⊎◌}
 use Rattle.std.specs.List.{AllByRecursion}
 use Rattle.std.specs.Io.KnownBytes.{Consumes, Appends}
 use Rattle.adg_base.specs.declared.command.CommandText.{CommandText}
@@ -7,9 +7,8 @@ use Rattle.adg_base.specs.declared.vector.RedoRecord.{RedoRecord}
 use Rattle.adg_io.specs.Faults.{Rose}
 use Rattle.adg_model.specs.declared.delivery.RawDelivery.{RawDelivery}
 use Rattle.adg_model.specs.declared.fault.FeedKind.{FeedKind}
-use Rattle.adg_model.specs.declared.fault.FeedKind.TheVariants as kinds
 use Rattle.adg_model.specs.declared.fault.RedoFault.{RedoFault}
-use Rattle.adg_model.specs.Feed.{Item, IsHeader, IsFeed, BeginsFeed, FeedFails, opening_bytes, deliveries_bytes, feed_bytes, delivery_of}
+use Rattle.adg_model.specs.Feed.{Item, IsHeader, IsFeed, IsDelivery, start, after_deliveries, delivery_bytes, BeginsFeed, FeedFails, opening_bytes, deliveries_bytes, feed_bytes, delivery_of}
 use Rattle.adg_model.specs.Records.{HasRecords, thread_text}
 use Rattle.adg_model.specs.Log.{merged_log}
 use Rattle.adg_model.specs.Database.{no_database}
@@ -111,7 +110,7 @@ pub record IsUnbuilt (taken written : List ℕ) : Type 0 where
   pub one : HasOneMore taken written
   pub unbuilt : HasUntaken (thread_text 1 (all_of one)) ⊎ AsksOther (thread_text 1 (all_of one)) (delivery_of one.last)
 
--- the deliveries that were read whole so far were run, the last one perhaps aside
+-- deliveries that were read whole were run, and more bytes were read
 pub record HasSoFar (taken written : List ℕ) : Type 0 where
   pub sessions : ℕ
   pub deliveries : List (List Item)
@@ -120,15 +119,40 @@ pub record HasSoFar (taken written : List ℕ) : Type 0 where
   pub read : taken ≡ read_bytes sessions deliveries ++ more
   pub ran : RanAll sessions (deliveries_of deliveries) written
 
-abbrev pub SoFar : List ℕ → List ℕ → Type 0
-SoFar taken written = (written ≡ []) ⊎ HasSoFar taken written
+-- some bytes follow deliveries that were read, and begin with one delivery more
+pub record BeginsMore {taken written : List ℕ} (so_far : HasSoFar taken written) (rest : List ℕ) : Type 0 where
+  pub items : List Item
+  pub is_delivery : IsDelivery (after_deliveries (start 1 so_far.sessions) so_far.deliveries) items
+  pub spelled : so_far.more ≡ delivery_bytes items ++ rest
 
--- a front of what is written of the deliveries read
+-- nothing was written, and nothing read after the opening
+pub record HasOpeningAtMost (taken written : List ℕ) : Type 0 where
+  pub none : written ≡ []
+  pub at_most : (threads sessions : ℕ) (rest : List ℕ) → IsHeader threads sessions → taken ≡ opening_bytes threads sessions ++ rest → rest ≡ []
+
+-- the deliveries that were read whole were run, all of them
+pub record HasAllSoFar (taken written : List ℕ) : Type 0 where
+  pub so_far : HasSoFar taken written
+  pub no_more : (rest : List ℕ) → BeginsMore so_far rest → ⊥
+
+-- the same, but the last of them, with which the reading ended, was perhaps not run
+pub record HasAllButOne (taken written : List ℕ) : Type 0 where
+  pub so_far : HasSoFar taken written
+  pub at_most : (rest : List ℕ) → BeginsMore so_far rest → rest ≡ []
+
+abbrev pub HasMostSoFar : List ℕ → List ℕ → Type 0
+HasMostSoFar taken written = HasOpeningAtMost taken written ⊎ HasAllButOne taken written
+
+-- all of the deliveries read was run, nothing was read after them, and a front of what they give was written
 pub record IsCutTranscript (taken written : List ℕ) : Type 0 where
+  pub sessions : ℕ
+  pub deliveries : List (List Item)
   pub whole : List ℕ
   pub cut : List ℕ
   pub front : written ++ cut ≡ whole
-  pub so_far : HasSoFar taken whole
+  pub feed : IsFeed 1 sessions deliveries
+  pub read : taken ≡ read_bytes sessions deliveries
+  pub ran : RanAll sessions (deliveries_of deliveries) whole
 
 -- How the run of a feed stops, before a line is written that says so.
 abbrev pub Stops : Ending → Option (List ℕ) → List ℕ → List ℕ → Type 0
@@ -136,9 +160,9 @@ Stops FeedRead source taken written = HasEnded taken written
 Stops WordsRefused source taken written = ⊥
 Stops (FeedRefused kind byte) source taken written = HasFeedFault source kind byte written
 Stops (RedoRefused fault) source taken written = HasRedoFault fault taken written
-Stops SourceFailed source taken written = SoFar taken written
+Stops SourceFailed source taken written = HasOpeningAtMost taken written ⊎ HasAllSoFar taken written
 Stops SinkFailed source taken written = IsCutTranscript taken written
-Stops NoMemory source taken written = SoFar taken written
+Stops NoMemory source taken written = HasMostSoFar taken written
 Stops NotBuilt source taken written = HasThreads taken written ⊎ IsUnbuilt taken written
 
 -- the line that says so, where there is one
@@ -179,7 +203,7 @@ Ends words SinkFailed source taken written =
     ((cut : List ℕ) × IsUsage words taken written cut)
     ⊎ ((workers : ℕ) × (workers_of words ≡ Some workers) × (IsCutTranscript taken written ⊎ StopsInLine source taken written))
 Ends words NoMemory source taken written =
-    (workers : ℕ) × (workers_of words ≡ Some workers) × (SoFar taken written ⊎ StopsInLine source taken written)
+    (workers : ℕ) × (workers_of words ≡ Some workers) × (HasMostSoFar taken written ⊎ StopsInLine source taken written)
 Ends words ending source taken written =
     (workers : ℕ) × (workers_of words ≡ Some workers) × StopsWithLine ending source taken written
 

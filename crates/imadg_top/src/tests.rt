@@ -184,6 +184,16 @@ fn names_each_damage(rt: HostRuntime) -> Result<(), Fail> {
 }
 
 #[test]
+fn ends_a_feed_of_no_delivery(rt: HostRuntime) -> Result<(), Fail> {
+    let feed = b"IMADG01\nH\0\0\0\x02\x01\x01X\0\0\0\0".as_slice();
+    for gives in [1, 7, 100_000] {
+        let outside = Outside { gives, ..CALM };
+        assert_runs(&rt, rt.alloc(), &ONE_WORKER, feed, outside, (0, 20, ""))?;
+    }
+    Ok(())
+}
+
+#[test]
 fn names_each_truncation(rt: HostRuntime) -> Result<(), Fail> {
     for len in 0..139 {
         let before = if len < 103 {

@@ -31,8 +31,10 @@ returns-in_err-take_payload-clause-item g c = λ before holds good.
 pub returns-then-is_err-clause-item : goal.returns-then-is_err-clause-item
 returns-then-is_err-clause-item g c = λ before holds good.
     let t = c.in_ok-take_payload.ensures.took in
+    let some : 1 ≤ c.args.head.len = c.requires.room.some (rw c.requires.tag refl) in
     no_memory (c.in_ok-thread.thread ∷ t.bytes) (record { good_tag = good.tag; good_length = good.length; small = omega arith })
     (took_both _ _ _ _ _ _ (c.in_ok-thread.thread ∷ []) t.bytes c.in_ok-thread.ensures.took t.took)
+    (omega (arith, t.whole, some))
     (rw c.requires.tag (c.in_ok-check_thread.ensures.fault before t.bytes))
 
 pub returns-clause-item : goal.returns-clause-item
