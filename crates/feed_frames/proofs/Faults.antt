@@ -1,5 +1,6 @@
 -- What the definitions of a frame's faults say of its bytes, as they come.
 use Rattle.std.proofs.Common.{◌≡◌, ℕ, ◌-◌, ◌^◌, ◌<◌, Bool, true, false, List, [], ◌∷◌, ◌++◌, length, take, Option, Some, None, inl, inr, refl, sym, subst, arith}
+use Rattle.std.specs.Ffi.{without_last}
 use Rattle.std.specs.Int.{w32, to_be_bytes}
 use Rattle.std.proofs.lemmas.List.{length-take}
 use Rattle.std.proofs.lemmas.Nat.{from_be_bytes-to_be_bytes_4}
@@ -48,7 +49,7 @@ cut_front tag (a ∷ b ∷ d ∷ e ∷ []) c = inl (omega arith)
 cut_front tag (a ∷ b ∷ d ∷ e ∷ f ∷ rest) (inl few) = absurd (omega (arith, few))
 cut_front tag (a ∷ b ∷ d ∷ e ∷ f ∷ rest) (inr few) = inr (omega (arith, few, length-take (length rest) (f ∷ rest)))
 
-pub still_cut : (bytes : List ℕ) → IsCut bytes → IsCut (take (length bytes - 1) bytes)
+pub still_cut : (bytes : List ℕ) → IsCut bytes → IsCut (without_last bytes)
 still_cut [] c = tt
 still_cut (tag ∷ rest) c = subst (λ (n : ℕ). IsCut (take n (tag ∷ rest))) (sym (but_last tag rest)) (cut_front tag rest c)
 
@@ -66,19 +67,19 @@ missing_stops kind.BadThread check left bytes m n c = absurd m
 missing_stops kind.BadSession check left bytes m n c = absurd m
 missing_stops kind.TooManyCommands check left bytes m n c = absurd m
 
-pub shown_stops : (k : FeedKind) (check : List ℕ → Option FeedKind) (left : Option (List ℕ)) (bytes : List ℕ) → IsShown k → check bytes ≡ Some k → check (take (length bytes - 1) bytes) ≡ None → FrameStops k check left bytes
-shown_stops kind.Truncated check left bytes s f n = absurd s
-shown_stops kind.Read check left bytes s f n = absurd s
-shown_stops kind.Memory check left bytes s f n = absurd s
-shown_stops kind.BadMagic check left bytes s f n = (f, n)
-shown_stops kind.BadTag check left bytes s f n = (f, n)
-shown_stops kind.BadOrder check left bytes s f n = (f, n)
-shown_stops kind.BadLength check left bytes s f n = (f, n)
-shown_stops kind.TooLarge check left bytes s f n = (f, n)
-shown_stops kind.TooManyDeliveries check left bytes s f n = (f, n)
-shown_stops kind.BadThread check left bytes s f n = (f, n)
-shown_stops kind.BadSession check left bytes s f n = (f, n)
-shown_stops kind.TooManyCommands check left bytes s f n = (f, n)
+pub shown_stops : (k : FeedKind) (check : List ℕ → Option FeedKind) (left : Option (List ℕ)) (bytes : List ℕ) → IsShown k → check bytes ≡ Some k → check (without_last bytes) ≡ None → IsCut (without_last bytes) → FrameStops k check left bytes
+shown_stops kind.Truncated check left bytes s f n c = absurd s
+shown_stops kind.Read check left bytes s f n c = absurd s
+shown_stops kind.Memory check left bytes s f n c = absurd s
+shown_stops kind.BadMagic check left bytes s f n c = (f, n, c)
+shown_stops kind.BadTag check left bytes s f n c = (f, n, c)
+shown_stops kind.BadOrder check left bytes s f n c = (f, n, c)
+shown_stops kind.BadLength check left bytes s f n c = (f, n, c)
+shown_stops kind.TooLarge check left bytes s f n c = (f, n, c)
+shown_stops kind.TooManyDeliveries check left bytes s f n c = (f, n, c)
+shown_stops kind.BadThread check left bytes s f n c = (f, n, c)
+shown_stops kind.BadSession check left bytes s f n c = (f, n, c)
+shown_stops kind.TooManyCommands check left bytes s f n c = (f, n, c)
 
 -- ---- the fault of a frame whose bytes are there in part
 

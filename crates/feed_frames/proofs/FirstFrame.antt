@@ -50,7 +50,7 @@ pub at_tag : {a b : Option (List ℕ)} {m n tag : ℕ} {k : FeedKind} → Took a
 at_tag {a} {b} {m} {n} {tag} {k} took fault shown = record {
   bytes = tag ∷ [];
   took = took;
-  stops = shown_stops k first_frame_fault b (tag ∷ []) shown (short_fault tag [] (omega arith) ∙ fault) no_bytes;
+  stops = shown_stops k first_frame_fault b (tag ∷ []) shown (short_fault tag [] (omega arith) ∙ fault) no_bytes tt;
 }
 
 pub in_length : {a b d : Option (List ℕ)} {m n l tag : ℕ} {k : FeedKind} → Took a b m n (tag ∷ []) → first_tag_fault tag ≡ None → Misses b d n l 4 k → StopsAfter [] first_frame_fault a d m l k
@@ -71,7 +71,7 @@ at_length {a} {b} {d} {m} {n} {l} {tag} {len} took good more small other =
     record {
       bytes = header_tag ∷ to_be_bytes w32 len;
       took = took_both a b d m n l (header_tag ∷ []) (to_be_bytes w32 len) first more;
-      stops = (header_fault len [] small ∙ then_none _ ∙ none, short_fault header_tag (take 3 (to_be_bytes w32 len)) (omega arith));
+      stops = (header_fault len [] small ∙ then_none _ ∙ none, short_fault header_tag (take 3 (to_be_bytes w32 len)) (omega arith), inl (omega arith));
     }
 
 pub headed : {a b d : Option (List ℕ)} {m n l tag len : ℕ} → Took a b m n (tag ∷ []) → tag ≡ header_tag → Took b d n l (to_be_bytes w32 len) → len ≡ 2 → Took a d m l header_head
@@ -102,7 +102,7 @@ pub at_threads : {a b d : Option (List ℕ)} {m n l threads : ℕ} → Took a b 
 at_threads {a} {b} {d} {m} {n} {l} {threads} took more out = record {
   bytes = header_head ++ threads ∷ [];
   took = took_both a b d m n l header_head (threads ∷ []) took more;
-  stops = (payload_fault (threads ∷ []) ∙ ap (λ b. fails b kind.BadThread) (out_of threads out), payload_fault []);
+  stops = (payload_fault (threads ∷ []) ∙ ap (λ b. fails b kind.BadThread) (out_of threads out), payload_fault [], cut_payload header_tag 2 [] (omega arith) (omega arith));
 }
 
 with_threads : {a b d : Option (List ℕ)} {m n l threads : ℕ} → Took a b m n header_head → Took b d n l (threads ∷ []) → Took a d m l (header_head ++ threads ∷ [])
@@ -127,7 +127,7 @@ pub at_sessions : {a b d e : Option (List ℕ)} {m n l j threads sessions : ℕ}
 at_sessions {a} {b} {d} {e} {m} {n} {l} {j} {threads} {sessions} took more good last out = record {
   bytes = header_head ++ threads ∷ sessions ∷ [];
   took = took_both a d e m l j (header_head ++ threads ∷ []) (sessions ∷ []) (with_threads took more) last;
-  stops = (payload_fault (threads ∷ sessions ∷ []) ∙ none_first _ _ (good_threads threads good) ∙ ap (λ b. fails b kind.BadSession) (out_of sessions out), payload_fault (threads ∷ []) ∙ good_threads threads good);
+  stops = (payload_fault (threads ∷ sessions ∷ []) ∙ none_first _ _ (good_threads threads good) ∙ ap (λ b. fails b kind.BadSession) (out_of sessions out), payload_fault (threads ∷ []) ∙ good_threads threads good, cut_payload header_tag 2 (threads ∷ []) (omega arith) (omega arith));
 }
 
 pub header : {a b d e : Option (List ℕ)} {m n l j threads sessions : ℕ} → Took a b m n header_head → Took b d n l (threads ∷ []) → Took d e l j (sessions ∷ []) → Took a e m j (header_bytes threads sessions)

@@ -1,5 +1,6 @@
 -- A frame that stops at one of its stages: before or at its tag, in or at its length, in its payload.
-use Rattle.std.proofs.Common.{◌≡◌, ℕ, ◌+◌, ◌^◌, ◌<◌, ◌≤◌, List, [], ◌∷◌, ◌++◌, length, take, Option, Some, None, ◌-◌, refl, sym, subst, ◌∙◌, inl, inr, arith, length-append}
+use Rattle.std.proofs.Common.{◌≡◌, ℕ, ◌+◌, ◌^◌, ◌<◌, ◌≤◌, List, [], ◌∷◌, ◌++◌, length, take, Option, Some, None, refl, sym, subst, ◌∙◌, inl, inr, arith, length-append}
+use Rattle.std.specs.Ffi.{without_last}
 use Rattle.std.specs.Int.{w32, to_be_bytes}
 use Rattle.std.proofs.lemmas.List.{length-take}
 use Rattle.std.proofs.lemmas.Nat.{from_be_bytes-to_be_bytes_4}
@@ -30,7 +31,7 @@ pub at_tag : {a b : Option (List ℕ)} {m n tag : ℕ} {k : FeedKind} (st : Stan
 at_tag {a} {b} {m} {n} {tag} {k} st before took fault shown = record {
   bytes = tag ∷ [];
   took = took;
-  stops = shown_stops k (frame_fault st before) b (tag ∷ []) shown (short_fault st before tag [] (omega arith) ∙ fault) (no_bytes st before);
+  stops = shown_stops k (frame_fault st before) b (tag ∷ []) shown (short_fault st before tag [] (omega arith) ∙ fault) (no_bytes st before) tt;
 }
 
 pub in_length : {a b d : Option (List ℕ)} {m n l tag : ℕ} {k : FeedKind} (st : Standing) (before : List Item) → Took a b m n (tag ∷ []) → tag_fault before tag ≡ None → Misses b d n l 4 k
@@ -48,7 +49,8 @@ at_length {a} {b} {d} {m} {n} {l} {tag} {len} {k} st before took good more small
   took = took_both a b d m n l (tag ∷ []) (to_be_bytes w32 len) took more;
   stops = shown_stops k (frame_fault st before) d (tag ∷ to_be_bytes w32 len) shown
       (head_fault st before tag len [] small ∙ none_first _ _ good ∙ then_none _ ∙ fault)
-      (short_fault st before tag (take 3 (to_be_bytes w32 len)) (omega arith) ∙ good);
+      (short_fault st before tag (take 3 (to_be_bytes w32 len)) (omega arith) ∙ good)
+      (inl (omega arith));
 }
 
 -- ---- after a head in which no check finds a fault
@@ -85,16 +87,16 @@ no_payload {a} {b} {m} {n} {tag} {len} {k} {st} {before} h missed some =
     in_payload [] h (took_none a m) missed some (rw none refl)
 
 -- the first byte of the payload shows a fault
-pub at_first : {a b : Option (List ℕ)} {m n tag len first : ℕ} {k : FeedKind} {st : Standing} {before : List Item} (h : Headed st before tag len) → Took a b m n (first ∷ []) → payload_fault st before tag (first ∷ []) ≡ Some k → IsShown k
+pub at_first : {a b : Option (List ℕ)} {m n tag len first : ℕ} {k : FeedKind} {st : Standing} {before : List Item} (h : Headed st before tag len) → 1 ≤ len → Took a b m n (first ∷ []) → payload_fault st before tag (first ∷ []) ≡ Some k → IsShown k
     → StopsAfter (tag ∷ to_be_bytes w32 len) (frame_fault st before) a b m n k
-at_first {a} {b} {m} {n} {tag} {len} {first} {k} {st} {before} h took fault shown = record {
+at_first {a} {b} {m} {n} {tag} {len} {first} {k} {st} {before} h some took fault shown = record {
   bytes = first ∷ [];
   took = took;
-  stops = shown_stops k (frame_fault st before) b (tag ∷ to_be_bytes w32 len ++ first ∷ []) shown (payload_only h (first ∷ []) ∙ fault) (payload_only h []);
+  stops = shown_stops k (frame_fault st before) b (tag ∷ to_be_bytes w32 len ++ first ∷ []) shown (payload_only h (first ∷ []) ∙ fault) (payload_only h []) (cut_payload tag len [] h.small (omega (arith, some)));
 }
 
 -- without its last byte the frame is cut short
-cut_last : (tag len : ℕ) (payload : List ℕ) → len < 2 ^ 32 → length payload ≤ len → (frame : List ℕ) → frame ≡ to_be_bytes w32 len ++ payload → IsCut (take (length (tag ∷ frame) - 1) (tag ∷ frame))
+cut_last : (tag len : ℕ) (payload : List ℕ) → len < 2 ^ 32 → length payload ≤ len → (frame : List ℕ) → frame ≡ to_be_bytes w32 len ++ payload → IsCut (without_last (tag ∷ frame))
 cut_last tag len payload small fits frame e =
     subst (λ (n : ℕ). IsCut (take n (tag ∷ frame))) (sym (but_last tag frame))
     (rw e (cut payload fits))

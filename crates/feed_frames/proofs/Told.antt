@@ -29,7 +29,7 @@ payload_more : (st : Standing) (before : List Item) (tag : ℕ) (payload more : 
 payload_more st before tag [] more k h = cc
 payload_more st before tag (x ∷ xs) more k h = h
 
-frame_more : (st : Standing) (before : List Item) (bytes more : List ℕ) (k : FeedKind) → frame_fault st before bytes ≡ Some k → frame_fault st before (bytes ++ more) ≡ Some k
+pub frame_more : (st : Standing) (before : List Item) (bytes more : List ℕ) (k : FeedKind) → frame_fault st before bytes ≡ Some k → frame_fault st before (bytes ++ more) ≡ Some k
 unfolding frame_fault
 frame_more st before [] more k h = cc
 frame_more st before (tag ∷ []) more k h = some_first (tag_fault before tag) _ k (rw then_none at h)
@@ -57,7 +57,7 @@ first_kept tag later k h =
     let other = fails (not (tag == header_tag)) kind.BadOrder in
     else_some (fails (not (is_tag tag)) kind.BadTag) (other else_check None) (other else_check later) k (λ (p : other else_check None ≡ Some k). some_first other later k (rw then_none at p)) h
 
-first_more : (bytes more : List ℕ) (k : FeedKind) → first_frame_fault bytes ≡ Some k → first_frame_fault (bytes ++ more) ≡ Some k
+pub first_more : (bytes more : List ℕ) (k : FeedKind) → first_frame_fault bytes ≡ Some k → first_frame_fault (bytes ++ more) ≡ Some k
 unfolding first_frame_fault
 first_more [] more k h = cc
 first_more (tag ∷ []) more k h = first_kept tag _ k h

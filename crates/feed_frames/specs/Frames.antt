@@ -1,6 +1,7 @@
 -- What the reader answers for a frame and for the frames of a delivery.
-use Rattle.std.specs.Prelude.{◌≡◌, ℕ, ◌+◌, ◌-◌, ◌<◌, List, [], ◌∷◌, ◌++◌, length, take, Option, Some, None, Result, Ok, Err}
+use Rattle.std.specs.Prelude.{◌≡◌, ℕ, ◌+◌, ◌<◌, List, [], ◌∷◌, ◌++◌, length, Option, Some, None, Result, Ok, Err}
 use Rattle.std.specs.List.{flat_map, filter_map}
+use Rattle.std.specs.Ffi.{without_last}
 use Rattle.std.specs.Int.{w32, to_be_bytes}
 use Rattle.std.specs.Io.KnownBytes.{IsAtEnd}
 use Rattle.adg_model.specs.Feed.{Item, Standing, AreItems, IsDelivery, IsItem, IsCut, item_bytes, items_bytes, delivery_bytes, end_bytes, stop_bytes, piece_of, command_of, schedule_of, tag_of, payload_of, tag_fault, length_fault, frame_fault, most_deliveries}
@@ -16,14 +17,14 @@ use Rattle.feed_frames.specs.declared.fault.FeedFault.{FeedFault}
 use Rattle.feed_frames.specs.Intake.{Took, fault_byte}
 use Rattle.feed_frames.specs.Counts.{IsCountOf, standing_of, tag_byte}
 
--- The reading of a frame stopped after these of its bytes. A check found its fault in them, and not
--- before the last of them had come; or the input ended or the source failed inside the frame, or
--- memory was wanting before more than the frame had come, where no check had found a fault.
+-- The reading of a frame stopped after these of its bytes: the input ended or the source failed inside the
+-- frame, or memory was wanting before more than the frame had come, where no check had found a fault; or a
+-- check found its fault in them, and without the last of them no fault and less than the frame.
 abbrev pub FrameStops : FeedKind → (List ℕ → Option FeedKind) → Option (List ℕ) → List ℕ → Type 0
 FrameStops Truncated check left bytes = (check bytes ≡ None) × IsCut bytes × IsAtEnd left
 FrameStops Read check left bytes = (check bytes ≡ None) × IsCut bytes
-FrameStops Memory check left bytes = (check bytes ≡ None) × IsCut (take (length bytes - 1) bytes)
-FrameStops kind check left bytes = (check bytes ≡ Some kind) × (check (take (length bytes - 1) bytes) ≡ None)
+FrameStops Memory check left bytes = (check bytes ≡ None) × IsCut (without_last bytes)
+FrameStops kind check left bytes = (check bytes ≡ Some kind) × (check (without_last bytes) ≡ None) × IsCut (without_last bytes)
 
 -- the same, where those after the first few of its bytes were taken by a call
 pub record StopsAfter (front : List ℕ) (check : List ℕ → Option FeedKind) (from to : Option (List ℕ)) (before after : ℕ) (kind : FeedKind) : Type 0 where

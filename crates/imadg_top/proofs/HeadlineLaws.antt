@@ -1,5 +1,5 @@
 -- The headline, from how the run of a feed stopped and what was written to end it.
-use Rattle.std.proofs.Common.{◌≡◌, ◌≢◌, ◌++◌, ◌≤◌, ℕ, List, [], length, Option, Some, None, IfSome, ◌∷◌, append_assoc, append-nil, ◌∙◌, ap, sym, subst, refl, arith, zero-add, inl, inr, ◌⊎◌, Err}
+use Rattle.std.proofs.Common.{◌≡◌, ◌≢◌, ◌++◌, ℕ, List, [], length, Option, Some, None, IfSome, ◌∷◌, append-nil, ◌∙◌, ap, sym, subst, refl, zero-add, inl, inr, ◌⊎◌, Err}
 use Rattle.std.specs.Io.KnownBytes.{Consumes}
 use Rattle.adg_io.specs.Faults.{Rose}
 use Rattle.adg_model.specs.declared.fault.FeedKind.{FeedKind}
@@ -8,11 +8,14 @@ use Rattle.imadg_top.specs.declared.outcome.Outcome.{Outcome}
 use Rattle.imadg_top.specs.declared.refusal.Refusal.{Refusal}
 use Rattle.imadg_top.specs.declared.refusal.Refusal.TheVariants as refusals
 use Rattle.imadg_top.specs.Words.{workers_of, usage_line}
-use Rattle.imadg_top.specs.Headline.{Ending, FeedRead, WordsRefused, FeedRefused, RedoRefused, SourceFailed, SinkFailed, NoMemory, NotBuilt, Stops, HasMostSoFar, IsCutTranscript, Ends, Headline, IsGoodFeed, IsComplete, HasRedoFault, deliveries_of, line_of, status_of, counted}
+use Rattle.imadg_top.specs.Headline.{Ending, FeedRead, WordsRefused, FeedRefused, RedoRefused, SourceFailed, SinkFailed, NoMemory, NotBuilt, HasLine, Stops, IsCutTranscript, Ends, Headline, IsGoodFeed, IsComplete, HasRedoFault, deliveries_of, line_of, status_of, counted}
 use Rattle.imadg_top.specs.Progress.{RunStops, HasCauses, WroteFront, WrotePiece, Writes, Tells, IsEnded, feed_ending}
 use Rattle.adg_model.specs.declared.fault.RedoFault.{RedoFault}
 use Rattle.adg_model.specs.Feed.{Item, FeedFails}
-use Rattle.adg_model.specs.Sound.{IsRedoFault}
+use Rattle.adg_model.specs.declared.delivery.RawDelivery.{RawDelivery}
+use Rattle.adg_model.specs.declared.fault.RedoKind.{RedoKind}
+use Rattle.adg_model.specs.declared.fault.RedoKind.TheVariants as redo
+use Rattle.adg_model.specs.Sound.{IsFirstBadRecord, IsRedoFault}
 use Rattle.adg_model.proofs.FeedWhole.{deliveries_are_one, whole_excludes_fault}
 use Rattle.imadg_top.proofs.RunMore.{appends-none, appends-join}
 
@@ -60,8 +63,27 @@ abbrev IsUsageEnd : Ending → Type 0
 IsUsageEnd WordsRefused = Unit {0}
 IsUsageEnd _ = ⊥
 
-rose-later : (a b c : ℕ) → a ≤ b → Rose b c → Rose a c
-rose-later a b c h k = omega (arith, h, k)
+-- an ending that a line tells is neither the source's nor the sink's
+line-source : (e : Ending) → HasLine e → e ≢ SourceFailed
+line-source e h is = subst HasLine is h
+
+line-sink : (e : Ending) → HasLine e → e ≢ SinkFailed
+line-sink e h is = subst HasLine is h
+
+nothing-cut : (front cut : List ℕ) → front ++ cut ≡ [] → cut ≡ []
+nothing-cut [] cut e = e
+nothing-cut (x ∷ xs) cut e = absurd cc
+
+-- an ending of whose line something was left has a line
+line-told : (e : Ending) (source : Option (List ℕ)) (taken output front cut : List ℕ) → Stops e source taken output → front ++ cut ≡ line_of e → cut ≢ [] → HasLine e
+line-told FeedRead source taken output front cut s split some = absurd (some (nothing-cut front cut split))
+line-told WordsRefused source taken output front cut s split some = absurd s
+line-told (FeedRefused kind byte) source taken output front cut s split some = tt
+line-told (RedoRefused fault) source taken output front cut s split some = tt
+line-told SourceFailed source taken output front cut s split some = absurd (some (nothing-cut front cut split))
+line-told SinkFailed source taken output front cut s split some = absurd (some (nothing-cut front cut split))
+line-told NoMemory source taken output front cut s split some = absurd (some (nothing-cut front cut split))
+line-told NotBuilt source taken output front cut s split some = tt
 
 -- the ending's line was written whole
 ends-of : (words : List (List ℕ)) (workers : ℕ) → workers_of words ≡ Some workers → (ending : Ending) (source : Option (List ℕ)) (taken output : List ℕ)
@@ -72,7 +94,7 @@ ends-of words workers e (FeedRefused kind byte) source taken output s = (workers
 ends-of words workers e (RedoRefused fault) source taken output s = (workers, e, record { before = output; stops = s; then_line = refl })
 ends-of words workers e SourceFailed source taken output s = (workers, e, record { before = output; stops = s; then_line = refl })
 ends-of words workers e SinkFailed source taken output s = inr (workers, e, inl (subst (IsCutTranscript taken) (sym (append-nil output)) s))
-ends-of words workers e NoMemory source taken output s = (workers, e, inl (subst (HasMostSoFar taken) (sym (append-nil output)) s))
+ends-of words workers e NoMemory source taken output s = (workers, e, inl (subst (λ (w : List ℕ). Stops NoMemory source taken w) (sym (append-nil output)) s))
 ends-of words workers e NotBuilt source taken output s = (workers, e, record { before = output; stops = s; then_line = refl })
 
 -- the feed was run
@@ -91,7 +113,9 @@ headline-run words workers source rest sink middle held ending reads reads_now w
   status = is;
   ends = ends-of words workers e ending source run.bytes run.output run.stops;
   read_fault = causes.read_fault;
+  no_read_fault = causes.no_read_fault;
   write_fault = λ s. subst (λ (n : ℕ). Rose writes n) (sym p.no_fault) (causes.write_fault s);
+  no_write_fault = λ s. p.no_fault ∙ causes.no_write_fault s;
 }
 headline-run words workers source rest sink middle held ending reads reads_now writes writes_then writes_now taken before after status e run causes (inl (inr (f, is))) = record {
   taken = run.bytes;
@@ -107,16 +131,22 @@ headline-run words workers source rest sink middle held ending reads reads_now w
     e,
     inr (record {
       ending = ending;
+      told = line-told ending source run.bytes run.output f.front f.cut run.stops f.split f.some;
       before = run.output;
+      front = f.front;
       cut = f.cut;
       stops = run.stops;
-      front = append_assoc run.output f.front f.cut ∙ ap (λ (t : List ℕ). run.output ++ t) f.split;
+      line = f.split;
+      some = f.some;
+      written_is = refl;
     }),
   );
   read_fault = λ s. absurd (subst IsSink s tt);
-  write_fault = λ s. rose-later writes writes_then writes_now causes.writes_later f.fault;
+  no_read_fault = λ s. causes.no_read_fault (line-source ending (line-told ending source run.bytes run.output f.front f.cut run.stops f.split f.some));
+  write_fault = λ s. subst (λ (n : ℕ). Rose n writes_now) (causes.no_write_fault (line-sink ending (line-told ending source run.bytes run.output f.front f.cut run.stops f.split f.some))) f.fault;
+  no_write_fault = λ s. absurd (s refl);
 }
-headline-run words workers source rest sink middle held ending reads reads_now writes writes_then writes_now taken before after status e run causes (inr (p, is)) = record {
+headline-run words workers source rest sink middle held ending reads reads_now writes writes_then writes_now taken before after status e run causes (inr (p, is, told)) = record {
   taken = run.bytes;
   written = run.output ++ [];
   took = run.took.consumed;
@@ -125,19 +155,11 @@ headline-run words workers source rest sink middle held ending reads reads_now w
   written_count = p.count run.output run.written_count;
   ending = NoMemory;
   status = is;
-  ends = (
-    workers,
-    e,
-    inr (record {
-      ending = ending;
-      before = run.output;
-      cut = line_of ending;
-      stops = run.stops;
-      front = ap (λ (t : List ℕ). t ++ line_of ending) (append-nil run.output);
-    }),
-  );
+  ends = (workers, e, inr (record { ending = ending; told = told; stops = subst (λ (w : List ℕ). Stops ending source run.bytes w) (sym (append-nil run.output)) run.stops }));
   read_fault = λ s. absurd (subst IsWant s tt);
+  no_read_fault = λ s. causes.no_read_fault (line-source ending told);
   write_fault = λ s. absurd (subst IsWant s tt);
+  no_write_fault = λ s. p.no_fault ∙ causes.no_write_fault (line-sink ending told);
 }
 
 -- the words were refused
@@ -155,7 +177,9 @@ headline-usage words source sink held reads writes writes_now after status e (in
   status = is;
   ends = record { refused = e; nothing_read = refl; usage = append-nil usage_line };
   read_fault = λ s. absurd (subst IsUsageEnd s tt);
+  no_read_fault = λ s. refl;
   write_fault = λ s. absurd (subst IsUsageEnd s tt);
+  no_write_fault = λ s. p.no_fault;
 }
 headline-usage words source sink held reads writes writes_now after status e (inr (f, is)) = record {
   taken = [];
@@ -166,9 +190,11 @@ headline-usage words source sink held reads writes writes_now after status e (in
   written_count = f.count [] refl;
   ending = SinkFailed;
   status = is;
-  ends = inl (f.cut, record { refused = e; nothing_read = refl; usage = f.split });
+  ends = inl (f.cut, f.some, record { refused = e; nothing_read = refl; usage = f.split });
   read_fault = λ s. absurd (subst IsSink s tt);
+  no_read_fault = λ s. refl;
   write_fault = λ s. f.fault;
+  no_write_fault = λ s. absurd (s refl);
 }
 
 -- the line of an ending was told
@@ -189,13 +215,19 @@ pub headline-told : (words : List (List ℕ)) (source sink held : Option (List �
 headline-told words source sink held reads writes writes_now after status line e u h =
     headline-usage words source sink held reads writes writes_now after status e (subst (λ (t : List ℕ). Tells sink held 0 after t writes writes_now 1 status) u h)
 
+-- a first bad record is the redo fault
+bad-is-fault : (t : ℕ) (ds : List RawDelivery) (thread number : ℕ) (kind : RedoKind) → IsFirstBadRecord t ds (record { thread = thread; number = number; kind = kind }) → IsRedoFault t ds (record { thread = thread; number = number; kind = kind })
+bad-is-fault t ds thread number (redo.Frame f) h = h
+bad-is-fault t ds thread number (redo.BadVector i) h = h
+bad-is-fault t ds thread number (redo.Unsound i c) h = absurd h.bad
+
 -- the redo of a good feed has no fault
 no-redo-fault : (bytes : List ℕ) (rest : Option (List ℕ)) (taken before : List ℕ) (fault : RedoFault) → IsGoodFeed bytes → Consumes (Some bytes) rest taken → HasRedoFault fault taken before → ⊥
 no-redo-fault bytes None taken before fault good took h = absurd took
 no-redo-fault bytes (Some rest) taken before fault good took h =
     let ds : List (List Item) = h.one.deliveries ++ h.one.last ∷ [] in
     let p = deliveries_are_one bytes 1 h.one.sessions ds rest h.one.feed (took ∙ ap (λ (t : List ℕ). t ++ rest) h.one.read) good.threads good.sessions good.deliveries good.unread good.begins in
-    good.no_fault ds p.2.0 fault p.2.1 (subst (λ (t : ℕ). IsRedoFault t (deliveries_of ds) fault) p.0 h.fault_is)
+    good.no_fault ds p.2.0 fault p.2.1 (subst (λ (t : ℕ). IsRedoFault t (deliveries_of ds) fault) p.0 (bad-is-fault 1 (deliveries_of ds) fault.thread fault.number fault.kind h.bad))
 
 complete-ends : (words : List (List ℕ)) (source rest : Option (List ℕ)) (reads reads_now writes writes_now status : ℕ) (taken written : List ℕ) (ending : Ending)
     → status ≡ status_of ending → Ends words ending source taken written → Consumes source rest taken → (ending ≡ SourceFailed → Rose reads reads_now) → (ending ≡ SinkFailed → Rose writes writes_now)

@@ -71,7 +71,8 @@ zip_map R S f [] (y ∷ ys) h = absurd h
 zip_map R S f (x ∷ xs) [] h = absurd h
 zip_map R S f (x ∷ xs) (y ∷ ys) h = (f x y h.0, zip_map R S f xs ys h.1)
 
-plain_all : (db : Database) (f : ℕ) (qs : List Asked) (ls : List Line) → AllZip (IsCounted db f) qs ls → AllByRecursion (λ l. (r : Option ℕ) × (l.reply ≡ count_reply f r)) ls
+-- each line counts rows at the SCN
+pub plain_all : (db : Database) (f : ℕ) (qs : List Asked) (ls : List Line) → AllZip (IsCounted db f) qs ls → AllByRecursion (λ l. (r : Option ℕ) × (l.reply ≡ count_reply f r)) ls
 plain_all db f [] [] h = tt
 plain_all db f [] (l ∷ ls) h = absurd h
 plain_all db f (a ∷ qs) [] h = absurd h

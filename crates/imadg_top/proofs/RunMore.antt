@@ -1,6 +1,8 @@
 -- How the run of a feed goes on and how it stops.
-use Rattle.std.proofs.Common.{◌⊎◌, ◌≡◌, ◌≢◌, ◌++◌, ◌+◌, ◌-◌, ◌≤◌, ◌<◌, ◌^◌, ℕ, List, [], ◌∷◌, length, Option, Some, None, IfSome, append_assoc, append-nil, length-append, ◌∙◌, ap, sym, subst, refl, arith, zero-add, min, inl, inr, Result, Ok, Err}
+use Rattle.std.proofs.Common.{◌⊎◌, ◌≡◌, ◌≢◌, ◌++◌, ◌+◌, ◌-◌, ◌≤◌, ◌<◌, ◌^◌, ℕ, List, [], ◌∷◌, length, Option, Some, None, IfSome, append_assoc, append-nil, length-append, ◌∙◌, ap, sym, subst, refl, arith, zero-add, min, inl, inr, ⊎_elim, Bool, true, false, drop, Result, Ok, Err}
 use Rattle.std.specs.List.{AllByRecursion, filter_map}
+use Rattle.std.proofs.lemmas.List.{length-drop}
+use Rattle.std.specs.Ffi.{without_last}
 use Rattle.std.specs.Io.KnownBytes.{Consumes, Appends}
 use Rattle.adg_base.specs.declared.command.CommandText.{CommandText}
 use Rattle.adg_base.specs.declared.vector.RedoRecord.{RedoRecord}
@@ -8,16 +10,15 @@ use Rattle.adg_model.specs.declared.delivery.RedoPiece.{RedoPiece}
 use Rattle.adg_model.specs.declared.delivery.RawDelivery.{RawDelivery}
 use Rattle.adg_model.specs.declared.fault.FeedKind.{FeedKind}
 use Rattle.adg_model.specs.declared.fault.FeedKind.TheVariants as kinds
-use Rattle.adg_model.specs.declared.fault.RedoKind.{RedoKind}
-use Rattle.adg_model.specs.declared.fault.RedoKind.TheVariants as redo
 use Rattle.adg_model.specs.Feed.{Item, Standing, AreItems, AreDeliveries, frame_fault, IsFeed, IsHeader, IsIn, IsDelivery, FeedFails, DeliveryFails, start, after_delivery, after_deliveries, delivery_of, command_of, redo_total, opening_bytes, deliveries_bytes, delivery_bytes, items_bytes, stop_bytes, most_redo, most_payload, most_deliveries}
 use Rattle.adg_model.specs.Records.{thread_text, HasBadRecord, record_fault}
-use Rattle.adg_model.specs.Sound.{IsRedoFault}
+use Rattle.adg_model.specs.declared.fault.RedoFault.{RedoFault}
+use Rattle.adg_model.specs.Sound.{IsFirstBadRecord}
 use Rattle.adg_model.proofs.FeedLaws.{pieces_room, redo_bound, few_commands, of_first, own_sessions, first_text, deliveries-more, after-more, feed-more, ends_count, after-threads, after-sessions, redo_within}
 use Rattle.feed_frames.specs.State.{FeedState, fresh}
 use Rattle.feed_frames.specs.declared.phase.Phase.TheVariants.{Open}
 use Rattle.feed_frames.specs.declared.fault.FeedFault.{FeedFault}
-use Rattle.feed_frames.specs.Intake.{Took}
+use Rattle.feed_frames.specs.Intake.{Took, fault_byte}
 use Rattle.feed_frames.specs.declared.phase.Phase.{Phase}
 use Rattle.feed_frames.specs.declared.reader.Step.{Step}
 use Rattle.feed_frames.specs.Frames.{FrameStops}
@@ -26,12 +27,12 @@ use Rattle.redo_frames.specs.Assembly.{next_number}
 use Rattle.imadg_top.specs.declared.applier.Standby.{Standby}
 use Rattle.imadg_top.specs.declared.refusal.Refusal.{Refusal}
 use Rattle.imadg_top.specs.declared.refusal.Refusal.TheVariants as refusals
-use Rattle.imadg_top.specs.Headline.{HasOpeningAtMost, HasSoFar, HasAllSoFar, HasMostSoFar, FeedRead, SinkFailed, NotBuilt, Stops, RanAll, HasFeedFault, CountsSome, deliveries_of, read_bytes, counted}
+use Rattle.imadg_top.specs.Headline.{IsFeedFront, HasRunFront, FeedRead, SinkFailed, NotBuilt, Stops, RanAll, HasFeedFault, CountsSome, deliveries_of, read_bytes, counted}
 use Rattle.imadg_top.specs.Progress.{IsAt, Transcribed, RunStops, WroteFront, WrotePiece, Writes, feed_ending, ending_of}
 use Rattle.imadg_top.specs.Standby.{HasRun, IsDelivered, DeliveryStops, HasUntaken, AsksOther}
 use Rattle.imadg_top.specs.Thread.{pieces_bytes, IsBadRecord}
 use Rattle.imadg_top.proofs.RunLaws.{sound-run}
-use Rattle.imadg_top.proofs.StoppedReading.{opening-at-most, no-delivery, one-delivery, same-delivery}
+use Rattle.imadg_top.proofs.StoppedReading.{IsOpeningFront, IsDeliveryFront, IsFrontBefore, opening-read, opening-memory, opening-shown, opening-before, delivery-read, delivery-memory, delivery-shown, delivery-found, delivery-before}
 use Rattle.imadg_top.proofs.StandbyLaws.{has-records}
 use Rattle.imadg_top.proofs.TranscriptMore.{transcribed-more, delivered_counts}
 
@@ -80,6 +81,7 @@ ran-all source from sink held sessions reader standby written at =
       takes = at.run.takes;
       counts = at.counts;
       transcript = record { lines = at.transcribed.lines; legal = at.transcribed.legal; print = at.transcribed.print };
+      at_end = at.transcribed.at_end;
     }
 
 -- the reader stands before the first delivery
@@ -101,7 +103,7 @@ at-start source from sink sessions opened standby h one same run number none =
       run = run;
       numbers = omega arith;
       delivered = none;
-      transcribed = record { lines = []; legal = tt; print = refl; last = sym run.frontier; count = refl };
+      transcribed = record { lines = []; legal = tt; print = refl; last = sym run.frontier; count = refl; at_end = tt };
       counts = tt;
       wrote = appends-none sink;
       written_count = refl;
@@ -244,8 +246,8 @@ stop-end source from to sink held sessions old new standby written at r = record
 }
 
 -- a fault by its kind
-by_kind : (kind : FeedKind) (byte : ℕ) (source : Option (List ℕ)) (taken written : List ℕ) → (IsOfBytes kind → HasFeedFault source kind byte written)
-    → (kind ≡ kinds.Read → HasOpeningAtMost taken written ⊎ HasAllSoFar taken written) → (kind ≡ kinds.Memory → HasMostSoFar taken written) → Stops (feed_ending kind byte) source taken written
+by_kind : (kind : FeedKind) (byte : ℕ) (source : Option (List ℕ)) (taken written : List ℕ) → (IsOfBytes kind → HasFeedFault source kind byte taken written)
+    → (kind ≡ kinds.Read → HasRunFront taken written) → (kind ≡ kinds.Memory → HasRunFront taken written ⊎ HasRunFront (without_last taken) written) → Stops (feed_ending kind byte) source taken written
 by_kind kinds.BadMagic byte source taken written f r m = f tt
 by_kind kinds.BadTag byte source taken written f r m = f tt
 by_kind kinds.BadOrder byte source taken written f r m = f tt
@@ -259,6 +261,18 @@ by_kind kinds.Truncated byte source taken written f r m = f tt
 by_kind kinds.Read byte source taken written f r m = r refl
 by_kind kinds.Memory byte source taken written f r m = m refl
 
+-- bytes of a delivery after whole ones that were run, and these bytes without the last
+run-front : (sessions : ℕ) (ds : List (List Item)) (bytes out : List ℕ) → IsFeed 1 sessions ds → RanAll sessions (deliveries_of ds) out → IsDeliveryFront (after_deliveries (start 1 sessions) ds) (read_bytes sessions ds) bytes
+    → HasRunFront (read_bytes sessions ds ++ bytes) out
+run-front sessions ds bytes out feed ran front = record { sessions = sessions; deliveries = ds; front = inr (record { rest = bytes; feed = feed; spelled = refl; fails = front }); ran = ran }
+
+feed-before : (sessions : ℕ) (ds : List (List Item)) (bytes : List ℕ) → IsFeed 1 sessions ds → IsFrontBefore (after_deliveries (start 1 sessions) ds) (read_bytes sessions ds) bytes → IsFeedFront (without_last (read_bytes sessions ds ++ bytes)) sessions ds
+feed-before sessions ds bytes feed h = subst (λ (t : List ℕ). IsFeedFront t sessions ds) (sym h.spelled) (inr (record { rest = h.rest; feed = feed; spelled = refl; fails = h.front }))
+
+run-before : (sessions : ℕ) (ds : List (List Item)) (bytes out : List ℕ) → IsFeed 1 sessions ds → RanAll sessions (deliveries_of ds) out → IsFrontBefore (after_deliveries (start 1 sessions) ds) (read_bytes sessions ds) bytes
+    → HasRunFront (without_last (read_bytes sessions ds ++ bytes)) out
+run-before sessions ds bytes out feed ran h = record { sessions = sessions; deliveries = ds; front = feed-before sessions ds bytes feed h; ran = ran }
+
 later : (source from : Option (List ℕ)) (sessions : ℕ) (ds : List (List Item)) (offset : ℕ) (st : Standing) (kind : FeedKind) (byte : ℕ) → IsFeed 1 sessions ds → st ≡ after_deliveries (start 1 sessions) ds
     → Took source from 0 offset (read_bytes sessions ds) → IfSome from (λ left. DeliveryFails st offset left kind byte) → IfSome source (λ bytes. FeedFails bytes 1 sessions ds kind byte)
 later None from sessions ds offset st kind byte feed same took h = tt
@@ -271,30 +285,50 @@ later (Some bytes) (Some left) sessions ds offset st kind byte feed same took h 
       fails = subst (λ (n : ℕ). DeliveryFails (after_deliveries (start 1 sessions) ds) n left kind byte) (took.counted ∙ zero-add _) (subst (λ (s : Standing). DeliveryFails s offset left kind byte) same h);
     })
 
+-- the first fault of a feed after deliveries that were run
+fault-later : (source from to sink held : Option (List ℕ)) (sessions : ℕ) (old new : FeedState) (standby : Standby) (written : ℕ) (fault : FeedFault) → (at : IsAt source from sink held sessions old standby written)
+    → (r : NoDelivery old new from to fault) → IsOfBytes fault.kind → HasFeedFault source fault.kind fault.byte (read_bytes sessions at.deliveries ++ (items_bytes r.before ++ r.rest)) at.output
+fault-later source from to sink held sessions old new standby written fault at r of =
+    let st : Standing = after_deliveries (start 1 sessions) at.deliveries in
+    let earlier : List ℕ = read_bytes sessions at.deliveries in
+    let here : old.taken ≡ length earlier = at.took.counted ∙ zero-add _ in
+    let byte = subst (λ (n : ℕ). fault.byte ≡ fault_byte fault.kind (n + length (items_bytes r.before)) new.taken) here r.byte in
+    let all : new.taken ≡ length earlier + length (items_bytes r.before) + length r.rest = omega (arith, here, r.took.counted, length-append (items_bytes r.before) r.rest) in
+    let items = subst (λ (s : Standing). AreItems s [] r.before) at.standing r.items in
+    let stops = subst (λ (s : Standing). FrameStops fault.kind (frame_fault s r.before) to r.rest) at.standing r.stops in
+    record {
+      sessions = sessions;
+      deliveries = at.deliveries;
+      fails = later source from sessions at.deliveries old.taken old.standing fault.kind fault.byte at.feed at.standing at.took (r.first of);
+      shown = inr (record {
+        rest = items_bytes r.before ++ r.rest;
+        feed = at.feed;
+        spelled = refl;
+        fails = delivery-shown st r.before r.rest to fault.kind (length earlier) fault.byte new.taken of items stops byte all;
+      });
+      at_once = λ other. feed-before sessions at.deliveries (items_bytes r.before ++ r.rest) at.feed (delivery-found st earlier r.before r.rest to fault.kind (of, other) items stops);
+      ran = ran-all source from sink held sessions old standby written at;
+    }
+
 pub stop-fault : (source from to sink held : Option (List ℕ)) (sessions : ℕ) (old new : FeedState) (standby : Standby) (written : ℕ) (fault : FeedFault) → IsAt source from sink held sessions old standby written
     → NoDelivery old new from to fault → RunStops source to sink held new.taken written (feed_ending fault.kind fault.byte)
 stop-fault source from to sink held sessions old new standby written fault at r =
     let ran = ran-all source from sink held sessions old standby written at in
-    let items = subst (λ (st : Standing). AreItems st [] r.before) at.standing r.items in
-    let stops = subst (λ (st : Standing). FrameStops fault.kind (frame_fault st r.before) to r.rest) at.standing r.stops in
-    let so_far : HasSoFar (read_bytes sessions at.deliveries ++ (items_bytes r.before ++ r.rest)) at.output = record {
-      sessions = sessions;
-      deliveries = at.deliveries;
-      more = items_bytes r.before ++ r.rest;
-      feed = at.feed;
-      read = refl;
-      ran = ran;
-    } in
+    let st : Standing = after_deliveries (start 1 sessions) at.deliveries in
+    let earlier : List ℕ = read_bytes sessions at.deliveries in
+    let bytes : List ℕ = items_bytes r.before ++ r.rest in
+    let items = subst (λ (s : Standing). AreItems s [] r.before) at.standing r.items in
+    let stops = subst (λ (s : Standing). FrameStops fault.kind (frame_fault s r.before) to r.rest) at.standing r.stops in
     record {
-      bytes = read_bytes sessions at.deliveries ++ (items_bytes r.before ++ r.rest);
+      bytes = earlier ++ bytes;
       output = at.output;
       took = took-join source from to old.taken new.taken _ _ at.took r.took;
       wrote = at.wrote;
       written_count = at.written_count;
-      stops = by_kind fault.kind fault.byte source _ at.output
-          (λ of. record { sessions = sessions; deliveries = at.deliveries; fails = later source from sessions at.deliveries old.taken old.standing fault.kind fault.byte at.feed at.standing at.took (r.first of); ran = ran })
-          (λ e. inr (record { so_far = so_far; no_more = λ rest b. no-delivery (after_deliveries (start 1 sessions) at.deliveries) r.before r.rest to fault.kind e items stops b.items rest b.is_delivery b.spelled }))
-          (λ e. inr (record { so_far = so_far; at_most = λ rest b. one-delivery (after_deliveries (start 1 sessions) at.deliveries) r.before r.rest to fault.kind (inr e) items stops b.items rest b.is_delivery b.spelled }));
+      stops = by_kind fault.kind fault.byte source (earlier ++ bytes) at.output (fault-later source from to sink held sessions old new standby written fault at r)
+          (λ e. run-front sessions at.deliveries bytes at.output at.feed ran (delivery-read st earlier r.before r.rest to fault.kind e items stops))
+          (λ e. ⊎_elim (λ front. inl (run-front sessions at.deliveries bytes at.output at.feed ran front)) (λ front. inr (run-before sessions at.deliveries bytes at.output at.feed ran front))
+          (delivery-memory st earlier r.before r.rest to fault.kind e items stops));
     }
 
 -- nothing was run
@@ -307,7 +341,12 @@ ran-none sessions = record {
   takes = tt;
   counts = tt;
   transcript = record { lines = []; legal = tt; print = refl };
+  at_end = tt;
 }
+
+-- nothing was run of an opening
+none-run : (bytes : List ℕ) → IsOpeningFront bytes → HasRunFront bytes []
+none-run bytes front = record { sessions = 1; deliveries = []; front = inl (refl, front); ran = ran-none 1 }
 
 pub stop-header : (source to sink : Option (List ℕ)) (new : FeedState) (fault : FeedFault) → NoHeader fresh new source to fault → RunStops source to sink sink new.taken 0 (feed_ending fault.kind fault.byte)
 stop-header source to sink new fault r = record {
@@ -316,9 +355,16 @@ stop-header source to sink new fault r = record {
   took = r.took;
   wrote = appends-none sink;
   written_count = refl;
-  stops = by_kind fault.kind fault.byte source r.bytes [] (λ of. record { sessions = 1; deliveries = []; fails = front source (r.first of); ran = ran-none 1 })
-      (λ e. inl (record { none = refl; at_most = opening-at-most r.bytes to fault (inl e) r.stops }))
-      (λ e. inl (record { none = refl; at_most = opening-at-most r.bytes to fault (inr e) r.stops }));
+  stops = by_kind fault.kind fault.byte source r.bytes [] (λ of. record {
+    sessions = 1;
+    deliveries = [];
+    fails = front source (r.first of);
+    shown = inl (refl, opening-shown fault to r.bytes of r.stops);
+    at_once = λ other. inl (refl, opening-before fault to r.bytes (of, other) r.stops);
+    ran = ran-none 1;
+  })
+      (λ e. none-run r.bytes (opening-read fault to r.bytes e r.stops))
+      (λ e. ⊎_elim (λ f. inl (none-run r.bytes f)) (λ f. inr (none-run (without_last r.bytes) f)) (opening-memory fault to r.bytes e r.stops));
 }
   where
     front : (s : Option (List ℕ)) → IfSome s (λ left. Rattle.feed_frames.specs.Answers.OpeningFails left fault.kind fault.byte) → IfSome s (λ bytes. FeedFails bytes 1 1 [] fault.kind fault.byte)
@@ -339,11 +385,9 @@ stop-threads source from sink opened h other =
       stops = inl (record { threads = h.threads; sessions = h.sessions; header = h.header; many = omega (arith, h.header.0.0, apart); read = refl; none = refl });
     }
 
--- the fault of a record of the one thread is the redo fault
-redo-fault : (ds : List RawDelivery) (t n : ℕ) (kind : RedoKind) → IsBadRecord (thread_text 1 ds) (record { thread = t; number = n; kind = kind }) → IsRedoFault 1 ds (record { thread = t; number = n; kind = kind })
-redo-fault ds t n (redo.Frame f) h = record { below = []; records = h.records; received = tt; thread = h.thread; is_thread = omega arith; number = h.number; bad = subst (λ (k : ℕ). HasBadRecord (thread_text k ds) h.records (redo.Frame f)) (sym h.thread) h.bad }
-redo-fault ds t n (redo.BadVector i) h = record { below = []; records = h.records; received = tt; thread = h.thread; is_thread = omega arith; number = h.number; bad = subst (λ (k : ℕ). HasBadRecord (thread_text k ds) h.records (redo.BadVector i)) (sym h.thread) h.bad }
-redo-fault ds t n (redo.Unsound i c) h = absurd h.bad
+-- the first bad record of the one thread
+redo-fault : (ds : List RawDelivery) (fault : RedoFault) → IsBadRecord (thread_text 1 ds) fault → IsFirstBadRecord 1 ds fault
+redo-fault ds fault h = record { below = []; records = h.records; received = tt; thread = h.thread; is_thread = omega arith; number = h.number; bad = subst (λ (k : ℕ). HasBadRecord (thread_text k ds) h.records fault.kind) (sym h.thread) h.bad }
 
 -- the last delivery of a feed
 last-delivery : (st : Standing) (ds : List (List Item)) (items : List Item) → AreDeliveries st (ds ++ items ∷ []) → IsDelivery (after_deliveries st ds) items
@@ -359,7 +403,7 @@ stops-of : (source : Option (List ℕ)) (sessions : ℕ) (ds : List (List Item))
 stops-of source sessions ds items d out text same is feed before ran (refusals.Feed f) h = absurd h
 stops-of source sessions ds items d out text same is feed before ran (refusals.Redo f) h = record {
   one = record { sessions = sessions; deliveries = ds; last = items; feed = feed; read = refl; ran = ran };
-  fault_is = redo-fault (deliveries_of (ds ++ items ∷ [])) f.thread f.number f.kind (subst (λ (t : List ℕ). IsBadRecord t f) (sym same) h);
+  bad = redo-fault (deliveries_of (ds ++ items ∷ [])) f (subst (λ (t : List ℕ). IsBadRecord t f) (sym same) h);
 }
 stops-of source sessions ds items d out text same is feed before ran refusals.NotBuilt (inl u) = inr (record {
   one = record { sessions = sessions; deliveries = ds; last = items; feed = feed; read = refl; ran = ran };
@@ -370,10 +414,10 @@ stops-of source sessions ds items d out text same is feed before ran refusals.No
   unbuilt = inr (asks-as text _ d (delivery_of items) (sym same) (sym is) a);
 })
 stops-of source sessions ds items d out text same is feed before ran refusals.Write h = absurd h
-stops-of source sessions ds items d out text same is feed before ran refusals.Memory h = inr (record {
-  so_far = record { sessions = sessions; deliveries = ds; more = delivery_bytes items; feed = before; read = sym (read-more sessions ds items); ran = ran };
-  at_most = λ rest b. same-delivery (after_deliveries (start 1 sessions) ds) items b.items rest (last-delivery (start 1 sessions) ds items feed.1) b.is_delivery b.spelled;
-})
+stops-of source sessions ds items d out text same is feed before ran refusals.Memory h =
+    let are = last-delivery (start 1 sessions) ds items feed.1 in
+    inr (subst (λ (t : List ℕ). HasRunFront (without_last t) out) (read-more sessions ds items)
+    (run-before sessions ds (delivery_bytes items) out before ran (delivery-before (after_deliveries (start 1 sessions) ds) (read_bytes sessions ds) items are.0)))
 
 -- a delivery was read and not run
 pub stop-delivery : (source from to sink held : Option (List ℕ)) (sessions : ℕ) (old new : FeedState) (standby : Standby) (written : ℕ) (d : RawDelivery) (refusal : Refusal)
@@ -409,6 +453,7 @@ stop-write source from to sink held held' sessions old new standby standby' writ
       takes = ran.run.takes;
       counts = ran.counts;
       transcript = record { lines = ran.transcribed.lines; legal = ran.transcribed.legal; print = ran.transcribed.print };
+      at_end = ran.transcribed.at_end;
     } in
     record {
       bytes = read_bytes sessions ds;
@@ -417,16 +462,22 @@ stop-write source from to sink held held' sessions old new standby standby' writ
       wrote = appends-join sink held held' at.output wrote.front at.wrote wrote.wrote;
       written_count = wrote.count at.output at.written_count;
       stops = record {
-        sessions = sessions;
-        deliveries = ds;
-        whole = at.output ++ printed;
+        before = at.output;
+        front = wrote.front;
         cut = wrote.cut;
-        front = append_assoc at.output wrote.front wrote.cut ∙ ap (λ (t : List ℕ). at.output ++ t) wrote.split;
-        feed = ran.one.feed;
-        read = refl;
-        ran = all;
+        one = record { sessions = sessions; deliveries = at.deliveries; last = ran.one.items; feed = ran.one.feed; read = refl; ran = ran-all source from sink held sessions old standby written at };
+        ran = subst (λ (t : List ℕ). RanAll sessions (deliveries_of ds) (at.output ++ t)) (sym wrote.split) all;
+        some = wrote.some;
+        written_is = refl;
       };
     }
+
+-- a piece of which not all was taken
+pub not-whole : (n : ℕ) (piece : List ℕ) (whole : Bool) → n ≤ length piece → whole ≡ false → (n ≡ length piece → whole ≡ true) → drop n piece ≢ []
+not-whole n piece whole most other all none =
+    let full = all (omega (arith, most, length-drop n piece, ap (λ (t : List ℕ). length t) none)) in
+    let clash : true ≡ false = sym full ∙ other in
+    absurd cc
 
 -- the count after a front of a piece was taken
 pub count-more : (before n after : ℕ) (output front : List ℕ) → length front ≡ n → after ≡ min (before + n) (2 ^ 64 - 1) → before ≡ counted output → after ≡ counted (output ++ front)

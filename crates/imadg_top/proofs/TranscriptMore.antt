@@ -17,12 +17,12 @@ use Rattle.adg_model.proofs.LogLaws.{mark_rises, mark_after-append, raws_after}
 use Rattle.imadg_top.specs.declared.applier.Standby.{Standby}
 use Rattle.imadg_top.specs.Answered.{AnswersAll, IsCounted}
 use Rattle.imadg_top.specs.Counting.{Counts}
-use Rattle.imadg_top.specs.Headline.{CountsSome}
+use Rattle.imadg_top.specs.Headline.{CountsSome, CountsAtEnd}
 use Rattle.imadg_top.specs.Progress.{Transcribed, end_after}
 use Rattle.imadg_top.specs.Run.{vectors_of, ran}
 use Rattle.imadg_top.specs.Standby.{IsDelivered}
 use Rattle.imadg_top.proofs.CountTexts.{command_bytes-count}
-use Rattle.imadg_top.proofs.LegalLaws.{legal}
+use Rattle.imadg_top.proofs.LegalLaws.{legal, plain_all}
 use Rattle.imadg_top.proofs.StandbyLaws.{has-records}
 use Rattle.imadg_top.proofs.ThreadLaws.{raws-append}
 
@@ -117,6 +117,11 @@ printed-one s n f answers printed' lines number frontier answered e =
     ∙ ap (λ (k : ℕ). flat_map (line_bytes k) lines ++ end_line_bytes k s.frontier) number
     ∙ ap (λ (q : ℕ). flat_map (line_bytes n) lines ++ end_line_bytes n q) frontier
 
+-- the lines of one delivery more are at its end too
+all-ends : (ls : List Lines) (l : Lines) → AllByRecursion CountsAtEnd ls → CountsAtEnd l → AllByRecursion CountsAtEnd (ls ++ l ∷ [])
+all-ends [] l h k = (k, tt)
+all-ends (x ∷ xs) l h k = (h.0, all-ends xs l h.1 k)
+
 pub transcribed-more : (s : Standby) (sessions : ℕ) (ds : List RawDelivery) (d : RawDelivery) (records : List RedoRecord) (output printed' : List ℕ) (floor : ℕ)
     → Transcribed sessions ds output floor → floor ≡ (thread_mark records).scn → s.delivered ≡ length ds + 1
     → IsDelivered s sessions d (thread_text 1 (ds ++ d ∷ [])) records printed' → AllByRecursion (λ (c : CommandText). IsIn sessions c.session) d.commands
@@ -137,6 +142,7 @@ transcribed-more s sessions ds d records output printed' floor t low number done
       legal = legal-more 1 sessions [] 0 ds t.lines d l (all ∷ []) t.legal refl (has, tt) one';
       print = ap (λ (w : List ℕ). w ++ printed') t.print ∙ ap (λ (w : List ℕ). printed 1 t.lines ++ w) (printed-one s (1 + length t.lines) f done.answers printed' a.lines place done.run.frontier a.printed done.lines)
           ∙ sym (printed-more 1 t.lines l);
+      at_end = all-ends t.lines l t.at_end (plain_all _ f _ a.lines a.counted);
       last = end-more 0 t.lines l ∙ sym done.run.frontier;
       count = length-append t.lines (l ∷ []) ∙ ap (λ (n : ℕ). n + 1) t.count ∙ sym (length-append ds (d ∷ []));
     }

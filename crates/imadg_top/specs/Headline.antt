@@ -1,21 +1,24 @@
 -- What a run of the program promises, over its words, its source, its sink and its outcome.
 use Rattle.std.specs.Prelude.{◌≡◌, ◌≢◌, ℕ, ◌-◌, ◌<◌, ◌^◌, min, List, [], ◌∷◌, ◌++◌, length, map, Option, Some, None, IfSome, ◌⊎◌}
 use Rattle.std.specs.List.{AllByRecursion}
+use Rattle.std.specs.Ffi.{without_last}
 use Rattle.std.specs.Io.KnownBytes.{Consumes, Appends}
 use Rattle.adg_base.specs.declared.command.CommandText.{CommandText}
+use Rattle.adg_base.specs.declared.answer.Lines.{Lines}
 use Rattle.adg_base.specs.declared.vector.RedoRecord.{RedoRecord}
 use Rattle.adg_io.specs.Faults.{Rose}
 use Rattle.adg_model.specs.declared.delivery.RawDelivery.{RawDelivery}
 use Rattle.adg_model.specs.declared.fault.FeedKind.{FeedKind}
+use Rattle.adg_model.specs.declared.fault.FeedKind.TheVariants as kinds
 use Rattle.adg_model.specs.declared.fault.RedoFault.{RedoFault}
-use Rattle.adg_model.specs.Feed.{Item, IsHeader, IsFeed, IsDelivery, start, after_deliveries, delivery_bytes, BeginsFeed, FeedFails, opening_bytes, deliveries_bytes, feed_bytes, delivery_of}
+use Rattle.adg_model.specs.Feed.{Item, IsHeader, IsFeed, BeginsFeed, FeedFails, opening_bytes, deliveries_bytes, feed_bytes, delivery_of}
 use Rattle.adg_model.specs.Records.{HasRecords, thread_text}
 use Rattle.adg_model.specs.Log.{merged_log}
 use Rattle.adg_model.specs.Database.{no_database}
-use Rattle.adg_model.specs.Sound.{IsSound, IsRedoFault}
+use Rattle.adg_model.specs.Sound.{IsSound, IsFirstBadRecord, IsRedoFault}
 use Rattle.adg_model.specs.Transcript.{IsTranscript}
 use Rattle.imadg_top.specs.Words.{workers_of, usage_line}
-use Rattle.imadg_top.specs.Counting.{Counts}
+use Rattle.imadg_top.specs.Counting.{Counts, count_reply}
 use Rattle.imadg_top.specs.Report.{feed_line, redo_line, not_built_line}
 use Rattle.imadg_top.specs.Run.{vectors_of, TakesAll}
 use Rattle.imadg_top.specs.Standby.{HasUntaken, AsksOther}
@@ -50,8 +53,13 @@ deliveries_of deliveries = map delivery_of deliveries
 abbrev pub CountsSome : CommandText → Type 0
 CountsSome c = (obj : ℕ) × Counts c.text obj
 
+-- each line of a delivery counts rows, all of them in the store, at the SCN of the delivery's end
+abbrev pub CountsAtEnd : Lines → Type 0
+CountsAtEnd l = AllByRecursion (λ line. (rows : Option ℕ) × (line.reply ≡ count_reply l.end rows)) l.list
+
 -- All of some deliveries was run: their records can be read, the merged log is sound and has only vectors
--- that are served, every command is a count, and what was written is a legal transcript of them.
+-- that are served, every command is a count, and what was written is a legal transcript of them in which
+-- each is answered at the end of its delivery.
 pub record RanAll (sessions : ℕ) (deliveries : List RawDelivery) (written : List ℕ) : Type 0 where
   pub records : List RedoRecord
   pub has : HasRecords (thread_text 1 deliveries) records
@@ -59,6 +67,7 @@ pub record RanAll (sessions : ℕ) (deliveries : List RawDelivery) (written : Li
   pub takes : TakesAll no_database (vectors_of records)
   pub counts : AllByRecursion (λ d. AllByRecursion CountsSome d.commands) deliveries
   pub transcript : IsTranscript 1 sessions deliveries written
+  pub at_end : AllByRecursion CountsAtEnd transcript.lines
 
 -- the opening of a feed with one thread and some of its deliveries
 abbrev pub read_bytes : ℕ → List (List Item) → List ℕ
@@ -72,11 +81,19 @@ pub record HasEnded (taken written : List ℕ) : Type 0 where
   pub read : taken ≡ feed_bytes 1 sessions deliveries
   pub ran : RanAll sessions (deliveries_of deliveries) written
 
--- the bytes of the source have this first fault, and the deliveries before it were run
-pub record HasFeedFault (source : Option (List ℕ)) (kind : FeedKind) (byte : ℕ) (written : List ℕ) : Type 0 where
+-- Nothing is wrong with these bytes but that they end: some of an opening, or an opening of one thread, whole
+-- deliveries and some of another.
+abbrev pub IsFeedFront : List ℕ → ℕ → List (List Item) → Type 0
+IsFeedFront bytes sessions deliveries = FeedFails bytes 1 sessions deliveries kinds.Truncated (length bytes)
+
+-- The bytes of the source have this first fault, and the deliveries before it were run. No more bytes were
+-- taken than show it: they have it themselves, and without the last of them nothing is wrong but the end.
+pub record HasFeedFault (source : Option (List ℕ)) (kind : FeedKind) (byte : ℕ) (taken written : List ℕ) : Type 0 where
   pub sessions : ℕ
   pub deliveries : List (List Item)
   pub fails : IfSome source (λ bytes. FeedFails bytes 1 sessions deliveries kind byte)
+  pub shown : FeedFails taken 1 sessions deliveries kind byte
+  pub at_once : kind ≢ kinds.Truncated → IsFeedFront (without_last taken) sessions deliveries
   pub ran : RanAll sessions (deliveries_of deliveries) written
 
 -- deliveries were run, and one more was read
@@ -91,13 +108,12 @@ pub record HasOneMore (taken written : List ℕ) : Type 0 where
 abbrev pub all_of : {taken written : List ℕ} → HasOneMore taken written → List RawDelivery
 all_of h = deliveries_of (h.deliveries ++ h.last ∷ [])
 
--- the redo of the last delivery has this fault
+-- the redo of the last delivery has this first bad record
 pub record HasRedoFault (fault : RedoFault) (taken written : List ℕ) : Type 0 where
   pub one : HasOneMore taken written
-  pub fault_is : IsRedoFault 1 (all_of one) fault
+  pub bad : IsFirstBadRecord 1 (all_of one) fault
 
--- A feed of more threads than one; or a delivery with a vector that is not served or an entry that is not
--- sound, or with a command that is no count.
+-- the feed has more threads than one, and nothing was read after its header
 pub record HasThreads (taken written : List ℕ) : Type 0 where
   pub threads : ℕ
   pub sessions : ℕ
@@ -106,63 +122,37 @@ pub record HasThreads (taken written : List ℕ) : Type 0 where
   pub read : taken ≡ opening_bytes threads sessions
   pub none : written ≡ []
 
+-- the last delivery has a vector that is not served or an entry that is not sound, or a command that is no count
 pub record IsUnbuilt (taken written : List ℕ) : Type 0 where
   pub one : HasOneMore taken written
   pub unbuilt : HasUntaken (thread_text 1 (all_of one)) ⊎ AsksOther (thread_text 1 (all_of one)) (delivery_of one.last)
 
--- deliveries that were read whole were run, and more bytes were read
-pub record HasSoFar (taken written : List ℕ) : Type 0 where
+-- nothing is wrong with these bytes but that they end, and the deliveries that are whole in them were run
+pub record HasRunFront (bytes written : List ℕ) : Type 0 where
   pub sessions : ℕ
   pub deliveries : List (List Item)
-  pub more : List ℕ
-  pub feed : IsFeed 1 sessions deliveries
-  pub read : taken ≡ read_bytes sessions deliveries ++ more
+  pub front : IsFeedFront bytes sessions deliveries
   pub ran : RanAll sessions (deliveries_of deliveries) written
 
--- some bytes follow deliveries that were read, and begin with one delivery more
-pub record BeginsMore {taken written : List ℕ} (so_far : HasSoFar taken written) (rest : List ℕ) : Type 0 where
-  pub items : List Item
-  pub is_delivery : IsDelivery (after_deliveries (start 1 so_far.sessions) so_far.deliveries) items
-  pub spelled : so_far.more ≡ delivery_bytes items ++ rest
-
--- nothing was written, and nothing read after the opening
-pub record HasOpeningAtMost (taken written : List ℕ) : Type 0 where
-  pub none : written ≡ []
-  pub at_most : (threads sessions : ℕ) (rest : List ℕ) → IsHeader threads sessions → taken ≡ opening_bytes threads sessions ++ rest → rest ≡ []
-
--- the deliveries that were read whole were run, all of them
-pub record HasAllSoFar (taken written : List ℕ) : Type 0 where
-  pub so_far : HasSoFar taken written
-  pub no_more : (rest : List ℕ) → BeginsMore so_far rest → ⊥
-
--- the same, but the last of them, with which the reading ended, was perhaps not run
-pub record HasAllButOne (taken written : List ℕ) : Type 0 where
-  pub so_far : HasSoFar taken written
-  pub at_most : (rest : List ℕ) → BeginsMore so_far rest → rest ≡ []
-
-abbrev pub HasMostSoFar : List ℕ → List ℕ → Type 0
-HasMostSoFar taken written = HasOpeningAtMost taken written ⊎ HasAllButOne taken written
-
--- all of the deliveries read was run, nothing was read after them, and a front of what they give was written
+-- the last delivery was run, and of its lines a front was written, but not all
 pub record IsCutTranscript (taken written : List ℕ) : Type 0 where
-  pub sessions : ℕ
-  pub deliveries : List (List Item)
-  pub whole : List ℕ
+  pub before : List ℕ
+  pub front : List ℕ
   pub cut : List ℕ
-  pub front : written ++ cut ≡ whole
-  pub feed : IsFeed 1 sessions deliveries
-  pub read : taken ≡ read_bytes sessions deliveries
-  pub ran : RanAll sessions (deliveries_of deliveries) whole
+  pub one : HasOneMore taken before
+  pub ran : RanAll one.sessions (all_of one) (before ++ (front ++ cut))
+  pub some : cut ≢ []
+  pub written_is : written ≡ before ++ front
 
 -- How the run of a feed stops, before a line is written that says so.
 abbrev pub Stops : Ending → Option (List ℕ) → List ℕ → List ℕ → Type 0
 Stops FeedRead source taken written = HasEnded taken written
 Stops WordsRefused source taken written = ⊥
-Stops (FeedRefused kind byte) source taken written = HasFeedFault source kind byte written
+Stops (FeedRefused kind byte) source taken written = HasFeedFault source kind byte taken written
 Stops (RedoRefused fault) source taken written = HasRedoFault fault taken written
-Stops SourceFailed source taken written = HasOpeningAtMost taken written ⊎ HasAllSoFar taken written
+Stops SourceFailed source taken written = HasRunFront taken written
 Stops SinkFailed source taken written = IsCutTranscript taken written
-Stops NoMemory source taken written = HasMostSoFar taken written
+Stops NoMemory source taken written = HasRunFront taken written ⊎ HasRunFront (without_last taken) written
 Stops NotBuilt source taken written = HasThreads taken written ⊎ IsUnbuilt taken written
 
 -- the line that says so, where there is one
@@ -182,15 +172,32 @@ pub record StopsWithLine (ending : Ending) (source : Option (List ℕ)) (taken w
   pub stops : Stops ending source taken before
   pub then_line : written ≡ before ++ line_of ending
 
--- the same, where only a front of the line was written
+-- the endings that a line tells
+abbrev pub HasLine : Ending → Type 0
+HasLine (FeedRefused kind byte) = Unit {0}
+HasLine (RedoRefused fault) = Unit {0}
+HasLine NotBuilt = Unit {0}
+HasLine _ = ⊥
+
+-- the same, but of the line only a front was written
 pub record StopsInLine (source : Option (List ℕ)) (taken written : List ℕ) : Type 0 where
   pub ending : Ending
+  pub told : HasLine ending
   pub before : List ℕ
+  pub front : List ℕ
   pub cut : List ℕ
   pub stops : Stops ending source taken before
-  pub front : written ++ cut ≡ before ++ line_of ending
+  pub line : front ++ cut ≡ line_of ending
+  pub some : cut ≢ []
+  pub written_is : written ≡ before ++ front
 
--- the usage line was written where the words are refused, or a front of it
+-- the same, but there was no memory for the line
+pub record StopsBeforeLine (source : Option (List ℕ)) (taken written : List ℕ) : Type 0 where
+  pub ending : Ending
+  pub told : HasLine ending
+  pub stops : Stops ending source taken written
+
+-- the words are refused, nothing was read, and the usage line was written, or a front of it
 pub record IsUsage (words : List (List ℕ)) (taken written cut : List ℕ) : Type 0 where
   pub refused : workers_of words ≡ None
   pub nothing_read : taken ≡ []
@@ -200,10 +207,10 @@ pub record IsUsage (words : List (List ℕ)) (taken written cut : List ℕ) : Ty
 abbrev pub Ends : List (List ℕ) → Ending → Option (List ℕ) → List ℕ → List ℕ → Type 0
 Ends words WordsRefused source taken written = IsUsage words taken written []
 Ends words SinkFailed source taken written =
-    ((cut : List ℕ) × IsUsage words taken written cut)
+    ((cut : List ℕ) × (cut ≢ []) × IsUsage words taken written cut)
     ⊎ ((workers : ℕ) × (workers_of words ≡ Some workers) × (IsCutTranscript taken written ⊎ StopsInLine source taken written))
 Ends words NoMemory source taken written =
-    (workers : ℕ) × (workers_of words ≡ Some workers) × (HasMostSoFar taken written ⊎ StopsInLine source taken written)
+    (workers : ℕ) × (workers_of words ≡ Some workers) × (Stops NoMemory source taken written ⊎ StopsBeforeLine source taken written)
 Ends words ending source taken written =
     (workers : ℕ) × (workers_of words ≡ Some workers) × StopsWithLine ending source taken written
 
@@ -212,7 +219,8 @@ abbrev pub counted : List ℕ → ℕ
 counted bytes = min (length bytes) (2 ^ 64 - 1)
 
 -- The headline: what was taken of the source and written to the sink, the two counts, and how the run
--- ended; a fault of the source or the sink ends it only where its count of faults rose.
+-- ended. A fault of the source or the sink ends it: the count of faults rose then, and is as before at every
+-- other ending.
 pub record Headline (words : List (List ℕ)) (source rest : Option (List ℕ)) (sink held : Option (List ℕ)) (reads reads_now writes writes_now : ℕ) (outcome : Outcome) : Type 0 where
   pub taken : List ℕ
   pub written : List ℕ
@@ -224,7 +232,9 @@ pub record Headline (words : List (List ℕ)) (source rest : Option (List ℕ)) 
   pub status : outcome.status ≡ status_of ending
   pub ends : Ends words ending source taken written
   pub read_fault : ending ≡ SourceFailed → Rose reads reads_now
+  pub no_read_fault : ending ≢ SourceFailed → reads_now ≡ reads
   pub write_fault : ending ≡ SinkFailed → Rose writes writes_now
+  pub no_write_fault : ending ≢ SinkFailed → writes_now ≡ writes
 
 -- bytes that begin with a whole feed, where the redo of none of its deliveries has a fault
 pub record IsGoodFeed (bytes : List ℕ) : Type 0 where

@@ -1,5 +1,5 @@
 -- How far the run of a feed has come.
-use Rattle.std.specs.Prelude.{◌≡◌, ℕ, ◌+◌, ◌≤◌, List, [], ◌∷◌, ◌++◌, length, Option, Result, Ok, Err, ◌⊎◌}
+use Rattle.std.specs.Prelude.{◌≡◌, ◌≢◌, ℕ, ◌+◌, ◌≤◌, List, [], ◌∷◌, ◌++◌, length, Option, Result, Ok, Err, ◌⊎◌}
 use Rattle.std.specs.List.{AllByRecursion}
 use Rattle.std.specs.Io.KnownBytes.{Appends}
 use Rattle.adg_base.specs.declared.vector.RedoRecord.{RedoRecord}
@@ -18,7 +18,7 @@ use Rattle.redo_frames.specs.Assembly.{next_number}
 use Rattle.imadg_top.specs.declared.applier.Standby.{Standby}
 use Rattle.imadg_top.specs.declared.refusal.Refusal.{Refusal}
 use Rattle.imadg_top.specs.declared.refusal.Refusal.TheVariants as refusals
-use Rattle.imadg_top.specs.Headline.{Ending, line_of, status_of, FeedRead, FeedRefused, RedoRefused, SourceFailed, SinkFailed, NoMemory, NotBuilt, Stops, CountsSome, deliveries_of, read_bytes, counted}
+use Rattle.imadg_top.specs.Headline.{Ending, HasLine, CountsAtEnd, line_of, status_of, FeedRead, FeedRefused, RedoRefused, SourceFailed, SinkFailed, NoMemory, NotBuilt, Stops, CountsSome, deliveries_of, read_bytes, counted}
 use Rattle.imadg_top.specs.Standby.{HasRun}
 
 -- the end of the last of some lines, or else one before them
@@ -33,6 +33,7 @@ pub record Transcribed (sessions : ℕ) (deliveries : List RawDelivery) (output 
   pub print : output ≡ printed 1 lines
   pub last : end_after 0 lines ≡ end
   pub count : length lines ≡ length deliveries
+  pub at_end : AllByRecursion CountsAtEnd lines
 
 -- The reader stands before a delivery, and those before it were run.
 pub record IsAt (source from sink held : Option (List ℕ)) (sessions : ℕ) (reader : FeedState) (standby : Standby) (written : ℕ) : Type 0 where
@@ -74,17 +75,19 @@ pub record RunStops (source from sink held : Option (List ℕ)) (taken written :
   pub written_count : written ≡ counted output
   pub stops : Stops ending source bytes output
 
--- the count of faults of the source or of the sink rose where it ended the run
+-- the count of faults of the source or of the sink rose where it ended the run, and nowhere else
 pub record HasCauses (ending : Ending) (reads reads_now writes writes_now : ℕ) : Type 0 where
   pub read_fault : ending ≡ SourceFailed → Rose reads reads_now
+  pub no_read_fault : ending ≢ SourceFailed → reads_now ≡ reads
   pub write_fault : ending ≡ SinkFailed → Rose writes writes_now
-  pub writes_later : writes ≤ writes_now
+  pub no_write_fault : ending ≢ SinkFailed → writes_now ≡ writes
 
 -- a piece was written, or a front of it where the sink failed
 pub record WroteFront (sink held : Option (List ℕ)) (before after : ℕ) (piece : List ℕ) (writes writes_now : ℕ) : Type 0 where
   pub front : List ℕ
   pub cut : List ℕ
   pub split : front ++ cut ≡ piece
+  pub some : cut ≢ []
   pub wrote : Appends sink held front
   pub count : (output : List ℕ) → before ≡ counted output → after ≡ counted (output ++ front)
   pub fault : Rose writes writes_now
@@ -109,8 +112,8 @@ Tells sink held before after line writes writes_now status result =
     (WrotePiece sink held before after line writes writes_now × (result ≡ status))
     ⊎ (WroteFront sink held before after line writes writes_now × (result ≡ status_of SinkFailed))
 
--- The line of an ending was told; or nothing was written for want of memory.
+-- The line of an ending was told; or there was no memory for it, and nothing was written.
 abbrev pub IsEnded : Ending → (sink held : Option (List ℕ)) (before after writes writes_now result : ℕ) → Type 0
 IsEnded ending sink held before after writes writes_now result =
     Tells sink held before after (line_of ending) writes writes_now (status_of ending) result
-    ⊎ (WrotePiece sink held before after [] writes writes_now × (result ≡ status_of NoMemory))
+    ⊎ (WrotePiece sink held before after [] writes writes_now × (result ≡ status_of NoMemory) × HasLine ending)

@@ -17,7 +17,7 @@ returns-in_err-session-clause-item g c = λ before holds good.
 pub returns-in_err-check_session-clause-item : goal.returns-in_err-check_session-clause-item
 returns-in_err-check_session-clause-item g c = λ before holds good.
     let p = err_from_is_err_and c.from_residual-in_err-check_session.result c.from_residual-in_err-check_session.ensures.1 in
-    rw (p.1, p.2) (at_first (record { good_tag = good.tag; good_length = good.length; small = omega arith }) c.in_ok-session.ensures.took
+    rw (p.1, p.2) (at_first (record { good_tag = good.tag; good_length = good.length; small = omega arith }) (c.requires.room.some (rw c.requires.tag refl)) c.in_ok-session.ensures.took
     (rw c.requires.tag (c.in_err-check_session.ensures.fault before [] holds.counts)) c.in_err-check_session.ensures.shown)
 
 pub returns-in_err-take_payload-clause-item : goal.returns-in_err-take_payload-clause-item
