@@ -1,48 +1,17 @@
 -- The laws of deliveries: the records that they give are the only ones, and more deliveries only add to them.
-use Rattle.std.proofs.Common.{◌≡◌, ℕ, ◌+◌, ◌<◌, ◌^◌, List, [], ◌∷◌, ◌++◌, map, length, get_or, drop, refl, sym, ap, ap₂, ◌∙◌, subst, arith, append_assoc, append-nil, ⊎_elim}
+use Rattle.std.proofs.Common.{◌≡◌, ℕ, ◌+◌, List, [], ◌∷◌, ◌++◌, map, length, refl, sym, ap, ap₂, ◌∙◌, subst, arith, append_assoc, append-nil}
 use Rattle.std.specs.List.{flat_map, AllZip}
-use Rattle.std.specs.Int.{w16, w64, to_be_bytes}
 use Rattle.std.proofs.lemmas.List.{length-append, nil_from_length}
 use Rattle.std.proofs.lemmas.Grind.{flat_map-append}
-use Rattle.std.proofs.lemmas.Nat.{from_be_bytes-to_be_bytes_2}
 use Rattle.adg_base.specs.declared.vector.RedoRecord.{RedoRecord}
 use Rattle.adg_model.specs.declared.delivery.RawDelivery.{RawDelivery}
 use Rattle.adg_model.specs.Spelling.{AreVectors}
-use Rattle.adg_model.specs.Records.{Raw, raw_len, raw_bytes, IsRaw, Mark, first_mark, mark_of, AreRaws, stated_len, IsPart, raw_of, bytes_for, thread_text, AreReadable, HasRecords, record_bytes}
+use Rattle.adg_model.specs.Records.{Raw, raw_bytes, Mark, first_mark, mark_of, AreRaws, IsPart, raw_of, bytes_for, thread_text, AreReadable, HasRecords, record_bytes}
 use Rattle.adg_model.specs.Log.{ReceivedFrom}
 use Rattle.adg_model.specs.Laws.{Continues, LogGrowsByDelivery, NoPrefix, RecordsAreDetermined}
-use Rattle.adg_model.proofs.VectorsSpelled.{fronts, apart_16, apart_64, vectors_bytes-same}
+use Rattle.adg_model.proofs.VectorsSpelled.{vectors_bytes-same}
+use Rattle.adg_model.proofs.RecordsSpelled.{raw_bytes-apart, raw-no_part}
 use Rattle.adg_model.proofs.LogLaws.{log_grows}
-
--- the bytes of a record behind its length and its SCN, and what follows
-abbrev behind_scn : Raw → List ℕ → List ℕ
-behind_scn r rest = r.count ∷ (r.body ++ (to_be_bytes w16 (raw_len r) ++ rest))
-
-laid_out : (r : Raw) (rest : List ℕ) → raw_bytes r ++ rest ≡ to_be_bytes w16 (raw_len r) ++ (to_be_bytes w64 r.scn ++ behind_scn r rest)
-unfolding raw_bytes
-laid_out r rest =
-    let e : (r.body ++ to_be_bytes w16 (raw_len r)) ++ rest ≡ r.body ++ (to_be_bytes w16 (raw_len r) ++ rest) = append_assoc r.body (to_be_bytes w16 (raw_len r)) rest in
-    ap (λ l. to_be_bytes w16 (raw_len r) ++ (to_be_bytes w64 r.scn ++ r.count ∷ l)) e
-
-raw_apart : (a b : Raw) (x y : List ℕ) → IsRaw a → IsRaw b → raw_bytes a ++ x ≡ raw_bytes b ++ y → (a ≡ b) × (x ≡ y)
-raw_apart a b x y ha hb e =
-    let p = apart_16 (raw_len a) (raw_len b) (to_be_bytes w64 a.scn ++ behind_scn a x) (to_be_bytes w64 b.scn ++ behind_scn b y) ha.len hb.len (sym (laid_out a x) ∙ e ∙ laid_out b y) in
-    let low : a.scn < 2 ^ 64 = omega (arith, ha.to) in
-    let low' : b.scn < 2 ^ 64 = omega (arith, hb.to) in
-    let q = apart_64 a.scn b.scn (behind_scn a x) (behind_scn b y) low low' p.1 in
-    let count : a.count ≡ b.count = ap (λ l. get_or l 0 0) q.1 in
-    let long : length a.body ≡ length b.body = omega (arith, p.0) in
-    let r = fronts a.body b.body (to_be_bytes w16 (raw_len a) ++ x) (to_be_bytes w16 (raw_len b) ++ y) long (ap (drop 1) q.1) in
-    let same : a ≡ b = ap (λ n. record a { scn = n }) q.0 ∙ ap (λ n. record b { count = n; body = a.body }) count ∙ ap (λ l. record b { body = l }) r.0 in
-    (same, ap (drop 2) r.1)
-
-raw_no_part : (r : Raw) (rest : List ℕ) → IsRaw r → IsPart (raw_bytes r ++ rest) → ⊥
-raw_no_part r rest h part =
-    let t = to_be_bytes w16 (raw_len r) ++ (to_be_bytes w64 r.scn ++ behind_scn r rest) in
-    let part' : IsPart t = subst IsPart (laid_out r rest) part in
-    let says : stated_len t ≡ raw_len r = from_be_bytes-to_be_bytes_2 (raw_len r) h.len in
-    let back = length-append r.body (to_be_bytes w16 (raw_len r) ++ rest) in
-    ⊎_elim (λ few. omega (arith, back, few)) (λ few. omega (arith, back, says, few)) part'
 
 -- the records of a text, and of more behind it
 first_apart : (r : Raw) (rs : List Raw) (x more : List ℕ) → (flat_map raw_bytes (r ∷ rs) ++ x) ++ more ≡ raw_bytes r ++ ((flat_map raw_bytes rs ++ x) ++ more)
@@ -52,9 +21,9 @@ first_apart r rs x more =
 raws_go_on : (mark : Mark) (rs ss : List Raw) (x y more : List ℕ) → AreRaws mark rs → AreRaws mark ss → IsPart y → (flat_map raw_bytes rs ++ x) ++ more ≡ flat_map raw_bytes ss ++ y → (ks : List Raw) × (ss ≡ rs ++ ks)
 raws_go_on mark [] ss x y more h k part e = (ss, refl)
 raws_go_on mark (r ∷ rs) [] x y more h k part e =
-    absurd (raw_no_part r ((flat_map raw_bytes rs ++ x) ++ more) h.0 (subst IsPart (sym e ∙ first_apart r rs x more) part))
+    absurd (raw-no_part r ((flat_map raw_bytes rs ++ x) ++ more) h.0 (subst IsPart (sym e ∙ first_apart r rs x more) part))
 raws_go_on mark (r ∷ rs) (s ∷ ss) x y more h k part e =
-    let p = raw_apart r s ((flat_map raw_bytes rs ++ x) ++ more) (flat_map raw_bytes ss ++ y) h.0 k.0 (sym (first_apart r rs x more) ∙ e ∙ append_assoc (raw_bytes s) (flat_map raw_bytes ss) y) in
+    let p = raw_bytes-apart r s ((flat_map raw_bytes rs ++ x) ++ more) (flat_map raw_bytes ss ++ y) h.0 k.0 (sym (first_apart r rs x more) ∙ e ∙ append_assoc (raw_bytes s) (flat_map raw_bytes ss) y) in
     let later = raws_go_on (mark_of s) rs ss x y more (subst (λ t. AreRaws (mark_of t) rs) p.0 h.3) k.3 part p.1 in
     (later.0, ap₂ (λ t ts. t ∷ ts) (sym p.0) later.1)
 
@@ -116,5 +85,5 @@ records_are_determined ds a b n h k = same_received 1 ds a b n h k
 
 pub no_prefix : NoPrefix
 no_prefix a b rest h k e =
-    let p = raw_apart (raw_of a) (raw_of b) rest [] h.raw k.raw (e ∙ sym (append-nil (record_bytes b))) in
+    let p = raw_bytes-apart (raw_of a) (raw_of b) rest [] h.raw k.raw (e ∙ sym (append-nil (record_bytes b))) in
     (same_record a b h.vectors k.vectors p.0, p.1)

@@ -18,7 +18,7 @@ use Rattle.feed_frames.specs.Intake.{Took, fault_byte}
 use Rattle.feed_frames.specs.Counts.{IsCountOf, standing_of, tag_byte}
 
 -- The reading of a frame stopped after these of its bytes: the input ended or the source failed inside the
--- frame, or memory was wanting before more than the frame had come, where no check had found a fault; or a
+-- frame, or memory was wanting when at most the whole frame had come, where no check had found a fault; or a
 -- check found its fault in them, and without the last of them no fault and less than the frame.
 abbrev pub FrameStops : FeedKind → (List ℕ → Option FeedKind) → Option (List ℕ) → List ℕ → Type 0
 FrameStops Truncated check left bytes = (check bytes ≡ None) × IsCut bytes × IsAtEnd left

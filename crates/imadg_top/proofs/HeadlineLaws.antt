@@ -8,8 +8,8 @@ use Rattle.imadg_top.specs.declared.outcome.Outcome.{Outcome}
 use Rattle.imadg_top.specs.declared.refusal.Refusal.{Refusal}
 use Rattle.imadg_top.specs.declared.refusal.Refusal.TheVariants as refusals
 use Rattle.imadg_top.specs.Words.{workers_of, usage_line}
-use Rattle.imadg_top.specs.Headline.{Ending, FeedRead, WordsRefused, FeedRefused, RedoRefused, SourceFailed, SinkFailed, NoMemory, NotBuilt, HasLine, Stops, IsCutTranscript, Ends, Headline, IsGoodFeed, IsComplete, HasRedoFault, deliveries_of, line_of, status_of, counted}
-use Rattle.imadg_top.specs.Progress.{RunStops, HasCauses, WroteFront, WrotePiece, Writes, Tells, IsEnded, feed_ending}
+use Rattle.imadg_top.specs.Headline.{Ending, HasCauses, FeedRead, WordsRefused, FeedRefused, RedoRefused, SourceFailed, SinkFailed, NoMemory, NotBuilt, HasLine, Stops, IsCutTranscript, Ends, Headline, IsGoodFeed, IsComplete, HasRedoFault, deliveries_of, line_of, status_of, counted}
+use Rattle.imadg_top.specs.Progress.{RunStops, WroteFront, WrotePiece, Writes, Tells, IsEnded, feed_ending}
 use Rattle.adg_model.specs.declared.fault.RedoFault.{RedoFault}
 use Rattle.adg_model.specs.Feed.{Item, FeedFails}
 use Rattle.adg_model.specs.declared.delivery.RawDelivery.{RawDelivery}
@@ -51,6 +51,7 @@ refused-ending kinds.Truncated byte r m = refl
 refused-ending kinds.Read byte r m = absurd (r refl)
 refused-ending kinds.Memory byte r m = absurd (m refl)
 
+-- endings that are told from the others
 abbrev IsSink : Ending → Type 0
 IsSink SinkFailed = Unit {0}
 IsSink _ = ⊥
@@ -112,10 +113,12 @@ headline-run words workers source rest sink middle held ending reads reads_now w
   ending = ending;
   status = is;
   ends = ends-of words workers e ending source run.bytes run.output run.stops;
-  read_fault = causes.read_fault;
-  no_read_fault = causes.no_read_fault;
-  write_fault = λ s. subst (λ (n : ℕ). Rose writes n) (sym p.no_fault) (causes.write_fault s);
-  no_write_fault = λ s. p.no_fault ∙ causes.no_write_fault s;
+  causes = record {
+    read_fault = causes.read_fault;
+    no_read_fault = causes.no_read_fault;
+    write_fault = λ s. subst (λ (n : ℕ). Rose writes n) (sym p.no_fault) (causes.write_fault s);
+    no_write_fault = λ s. p.no_fault ∙ causes.no_write_fault s;
+  };
 }
 headline-run words workers source rest sink middle held ending reads reads_now writes writes_then writes_now taken before after status e run causes (inl (inr (f, is))) = record {
   taken = run.bytes;
@@ -141,10 +144,12 @@ headline-run words workers source rest sink middle held ending reads reads_now w
       written_is = refl;
     }),
   );
-  read_fault = λ s. absurd (subst IsSink s tt);
-  no_read_fault = λ s. causes.no_read_fault (line-source ending (line-told ending source run.bytes run.output f.front f.cut run.stops f.split f.some));
-  write_fault = λ s. subst (λ (n : ℕ). Rose n writes_now) (causes.no_write_fault (line-sink ending (line-told ending source run.bytes run.output f.front f.cut run.stops f.split f.some))) f.fault;
-  no_write_fault = λ s. absurd (s refl);
+  causes = record {
+    read_fault = λ s. absurd (subst IsSink s tt);
+    no_read_fault = λ s. causes.no_read_fault (line-source ending (line-told ending source run.bytes run.output f.front f.cut run.stops f.split f.some));
+    write_fault = λ s. subst (λ (n : ℕ). Rose n writes_now) (causes.no_write_fault (line-sink ending (line-told ending source run.bytes run.output f.front f.cut run.stops f.split f.some))) f.fault;
+    no_write_fault = λ s. absurd (s refl);
+  };
 }
 headline-run words workers source rest sink middle held ending reads reads_now writes writes_then writes_now taken before after status e run causes (inr (p, is, told)) = record {
   taken = run.bytes;
@@ -156,10 +161,12 @@ headline-run words workers source rest sink middle held ending reads reads_now w
   ending = NoMemory;
   status = is;
   ends = (workers, e, inr (record { ending = ending; told = told; stops = subst (λ (w : List ℕ). Stops ending source run.bytes w) (sym (append-nil run.output)) run.stops }));
-  read_fault = λ s. absurd (subst IsWant s tt);
-  no_read_fault = λ s. causes.no_read_fault (line-source ending told);
-  write_fault = λ s. absurd (subst IsWant s tt);
-  no_write_fault = λ s. p.no_fault ∙ causes.no_write_fault (line-sink ending told);
+  causes = record {
+    read_fault = λ s. absurd (subst IsWant s tt);
+    no_read_fault = λ s. causes.no_read_fault (line-source ending told);
+    write_fault = λ s. absurd (subst IsWant s tt);
+    no_write_fault = λ s. p.no_fault ∙ causes.no_write_fault (line-sink ending told);
+  };
 }
 
 -- the words were refused
@@ -176,10 +183,12 @@ headline-usage words source sink held reads writes writes_now after status e (in
   ending = WordsRefused;
   status = is;
   ends = record { refused = e; nothing_read = refl; usage = append-nil usage_line };
-  read_fault = λ s. absurd (subst IsUsageEnd s tt);
-  no_read_fault = λ s. refl;
-  write_fault = λ s. absurd (subst IsUsageEnd s tt);
-  no_write_fault = λ s. p.no_fault;
+  causes = record {
+    read_fault = λ s. absurd (subst IsUsageEnd s tt);
+    no_read_fault = λ s. refl;
+    write_fault = λ s. absurd (subst IsUsageEnd s tt);
+    no_write_fault = λ s. p.no_fault;
+  };
 }
 headline-usage words source sink held reads writes writes_now after status e (inr (f, is)) = record {
   taken = [];
@@ -191,10 +200,12 @@ headline-usage words source sink held reads writes writes_now after status e (in
   ending = SinkFailed;
   status = is;
   ends = inl (f.cut, f.some, record { refused = e; nothing_read = refl; usage = f.split });
-  read_fault = λ s. absurd (subst IsSink s tt);
-  no_read_fault = λ s. refl;
-  write_fault = λ s. f.fault;
-  no_write_fault = λ s. absurd (s refl);
+  causes = record {
+    read_fault = λ s. absurd (subst IsSink s tt);
+    no_read_fault = λ s. refl;
+    write_fault = λ s. f.fault;
+    no_write_fault = λ s. absurd (s refl);
+  };
 }
 
 -- the line of an ending was told
@@ -248,4 +259,4 @@ complete-ends words source rest reads reads_now writes writes_now status taken w
 pub complete : (words : List (List ℕ)) (source rest sink held : Option (List ℕ)) (reads reads_now writes writes_now : ℕ) (outcome : Outcome)
     → Headline words source rest sink held reads reads_now writes writes_now outcome → IsComplete words source reads reads_now writes writes_now outcome
 complete words source rest sink held reads reads_now writes writes_now outcome h bytes is good =
-    complete-ends words source rest reads reads_now writes writes_now outcome.status h.taken h.written h.ending h.status h.ends h.took h.read_fault h.write_fault bytes is good
+    complete-ends words source rest reads reads_now writes writes_now outcome.status h.taken h.written h.ending h.status h.ends h.took h.causes.read_fault h.causes.write_fault bytes is good

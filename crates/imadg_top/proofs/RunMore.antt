@@ -22,7 +22,7 @@ use Rattle.feed_frames.specs.Intake.{Took, fault_byte}
 use Rattle.feed_frames.specs.declared.phase.Phase.{Phase}
 use Rattle.feed_frames.specs.declared.reader.Step.{Step}
 use Rattle.feed_frames.specs.Frames.{FrameStops}
-use Rattle.feed_frames.specs.Answers.{ReadHeader, NoHeader, ReadDelivery, ReadEnd, NoDelivery, IsOfBytes, HeaderAnswer, StepAnswer, AnswersDelivery, IsReading}
+use Rattle.feed_frames.specs.Answers.{ReadHeader, NoHeader, OpeningFails, ReadDelivery, ReadEnd, NoDelivery, IsOfBytes, HeaderAnswer, StepAnswer, AnswersDelivery, IsReading}
 use Rattle.redo_frames.specs.Assembly.{next_number}
 use Rattle.imadg_top.specs.declared.applier.Standby.{Standby}
 use Rattle.imadg_top.specs.declared.refusal.Refusal.{Refusal}
@@ -246,26 +246,27 @@ stop-end source from to sink held sessions old new standby written at r = record
 }
 
 -- a fault by its kind
-by_kind : (kind : FeedKind) (byte : ℕ) (source : Option (List ℕ)) (taken written : List ℕ) → (IsOfBytes kind → HasFeedFault source kind byte taken written)
+stops-by_kind : (kind : FeedKind) (byte : ℕ) (source : Option (List ℕ)) (taken written : List ℕ) → (IsOfBytes kind → HasFeedFault source kind byte taken written)
     → (kind ≡ kinds.Read → HasRunFront taken written) → (kind ≡ kinds.Memory → HasRunFront taken written ⊎ HasRunFront (without_last taken) written) → Stops (feed_ending kind byte) source taken written
-by_kind kinds.BadMagic byte source taken written f r m = f tt
-by_kind kinds.BadTag byte source taken written f r m = f tt
-by_kind kinds.BadOrder byte source taken written f r m = f tt
-by_kind kinds.BadLength byte source taken written f r m = f tt
-by_kind kinds.TooLarge byte source taken written f r m = f tt
-by_kind kinds.TooManyDeliveries byte source taken written f r m = f tt
-by_kind kinds.BadThread byte source taken written f r m = f tt
-by_kind kinds.BadSession byte source taken written f r m = f tt
-by_kind kinds.TooManyCommands byte source taken written f r m = f tt
-by_kind kinds.Truncated byte source taken written f r m = f tt
-by_kind kinds.Read byte source taken written f r m = r refl
-by_kind kinds.Memory byte source taken written f r m = m refl
+stops-by_kind kinds.BadMagic byte source taken written f r m = f tt
+stops-by_kind kinds.BadTag byte source taken written f r m = f tt
+stops-by_kind kinds.BadOrder byte source taken written f r m = f tt
+stops-by_kind kinds.BadLength byte source taken written f r m = f tt
+stops-by_kind kinds.TooLarge byte source taken written f r m = f tt
+stops-by_kind kinds.TooManyDeliveries byte source taken written f r m = f tt
+stops-by_kind kinds.BadThread byte source taken written f r m = f tt
+stops-by_kind kinds.BadSession byte source taken written f r m = f tt
+stops-by_kind kinds.TooManyCommands byte source taken written f r m = f tt
+stops-by_kind kinds.Truncated byte source taken written f r m = f tt
+stops-by_kind kinds.Read byte source taken written f r m = r refl
+stops-by_kind kinds.Memory byte source taken written f r m = m refl
 
--- bytes of a delivery after whole ones that were run, and these bytes without the last
+-- bytes of a delivery come after whole deliveries that were run
 run-front : (sessions : ℕ) (ds : List (List Item)) (bytes out : List ℕ) → IsFeed 1 sessions ds → RanAll sessions (deliveries_of ds) out → IsDeliveryFront (after_deliveries (start 1 sessions) ds) (read_bytes sessions ds) bytes
     → HasRunFront (read_bytes sessions ds ++ bytes) out
 run-front sessions ds bytes out feed ran front = record { sessions = sessions; deliveries = ds; front = inr (record { rest = bytes; feed = feed; spelled = refl; fails = front }); ran = ran }
 
+-- the same where the last byte is left out
 feed-before : (sessions : ℕ) (ds : List (List Item)) (bytes : List ℕ) → IsFeed 1 sessions ds → IsFrontBefore (after_deliveries (start 1 sessions) ds) (read_bytes sessions ds) bytes → IsFeedFront (without_last (read_bytes sessions ds ++ bytes)) sessions ds
 feed-before sessions ds bytes feed h = subst (λ (t : List ℕ). IsFeedFront t sessions ds) (sym h.spelled) (inr (record { rest = h.rest; feed = feed; spelled = refl; fails = h.front }))
 
@@ -273,11 +274,12 @@ run-before : (sessions : ℕ) (ds : List (List Item)) (bytes out : List ℕ) →
     → HasRunFront (without_last (read_bytes sessions ds ++ bytes)) out
 run-before sessions ds bytes out feed ran h = record { sessions = sessions; deliveries = ds; front = feed-before sessions ds bytes feed h; ran = ran }
 
-later : (source from : Option (List ℕ)) (sessions : ℕ) (ds : List (List Item)) (offset : ℕ) (st : Standing) (kind : FeedKind) (byte : ℕ) → IsFeed 1 sessions ds → st ≡ after_deliveries (start 1 sessions) ds
+-- the fault of what the source told of a delivery is the fault of all that it told
+later-fails : (source from : Option (List ℕ)) (sessions : ℕ) (ds : List (List Item)) (offset : ℕ) (st : Standing) (kind : FeedKind) (byte : ℕ) → IsFeed 1 sessions ds → st ≡ after_deliveries (start 1 sessions) ds
     → Took source from 0 offset (read_bytes sessions ds) → IfSome from (λ left. DeliveryFails st offset left kind byte) → IfSome source (λ bytes. FeedFails bytes 1 sessions ds kind byte)
-later None from sessions ds offset st kind byte feed same took h = tt
-later (Some bytes) None sessions ds offset st kind byte feed same took h = absurd took.consumed
-later (Some bytes) (Some left) sessions ds offset st kind byte feed same took h =
+later-fails None from sessions ds offset st kind byte feed same took h = tt
+later-fails (Some bytes) None sessions ds offset st kind byte feed same took h = absurd took.consumed
+later-fails (Some bytes) (Some left) sessions ds offset st kind byte feed same took h =
     inr (record {
       rest = left;
       feed = feed;
@@ -286,9 +288,9 @@ later (Some bytes) (Some left) sessions ds offset st kind byte feed same took h 
     })
 
 -- the first fault of a feed after deliveries that were run
-fault-later : (source from to sink held : Option (List ℕ)) (sessions : ℕ) (old new : FeedState) (standby : Standby) (written : ℕ) (fault : FeedFault) → (at : IsAt source from sink held sessions old standby written)
+later-fault : (source from to sink held : Option (List ℕ)) (sessions : ℕ) (old new : FeedState) (standby : Standby) (written : ℕ) (fault : FeedFault) → (at : IsAt source from sink held sessions old standby written)
     → (r : NoDelivery old new from to fault) → IsOfBytes fault.kind → HasFeedFault source fault.kind fault.byte (read_bytes sessions at.deliveries ++ (items_bytes r.before ++ r.rest)) at.output
-fault-later source from to sink held sessions old new standby written fault at r of =
+later-fault source from to sink held sessions old new standby written fault at r shown =
     let st : Standing = after_deliveries (start 1 sessions) at.deliveries in
     let earlier : List ℕ = read_bytes sessions at.deliveries in
     let here : old.taken ≡ length earlier = at.took.counted ∙ zero-add _ in
@@ -299,14 +301,14 @@ fault-later source from to sink held sessions old new standby written fault at r
     record {
       sessions = sessions;
       deliveries = at.deliveries;
-      fails = later source from sessions at.deliveries old.taken old.standing fault.kind fault.byte at.feed at.standing at.took (r.first of);
+      fails = later-fails source from sessions at.deliveries old.taken old.standing fault.kind fault.byte at.feed at.standing at.took (r.first shown);
       shown = inr (record {
         rest = items_bytes r.before ++ r.rest;
         feed = at.feed;
         spelled = refl;
-        fails = delivery-shown st r.before r.rest to fault.kind (length earlier) fault.byte new.taken of items stops byte all;
+        fails = delivery-shown st r.before r.rest to fault.kind (length earlier) fault.byte new.taken shown items stops byte all;
       });
-      at_once = λ other. feed-before sessions at.deliveries (items_bytes r.before ++ r.rest) at.feed (delivery-found st earlier r.before r.rest to fault.kind (of, other) items stops);
+      at_once = λ other. feed-before sessions at.deliveries (items_bytes r.before ++ r.rest) at.feed (delivery-found st earlier r.before r.rest to fault.kind (shown, other) items stops);
       ran = ran-all source from sink held sessions old standby written at;
     }
 
@@ -325,7 +327,7 @@ stop-fault source from to sink held sessions old new standby written fault at r 
       took = took-join source from to old.taken new.taken _ _ at.took r.took;
       wrote = at.wrote;
       written_count = at.written_count;
-      stops = by_kind fault.kind fault.byte source (earlier ++ bytes) at.output (fault-later source from to sink held sessions old new standby written fault at r)
+      stops = stops-by_kind fault.kind fault.byte source (earlier ++ bytes) at.output (later-fault source from to sink held sessions old new standby written fault at r)
           (λ e. run-front sessions at.deliveries bytes at.output at.feed ran (delivery-read st earlier r.before r.rest to fault.kind e items stops))
           (λ e. ⊎_elim (λ front. inl (run-front sessions at.deliveries bytes at.output at.feed ran front)) (λ front. inr (run-before sessions at.deliveries bytes at.output at.feed ran front))
           (delivery-memory st earlier r.before r.rest to fault.kind e items stops));
@@ -355,19 +357,19 @@ stop-header source to sink new fault r = record {
   took = r.took;
   wrote = appends-none sink;
   written_count = refl;
-  stops = by_kind fault.kind fault.byte source r.bytes [] (λ of. record {
+  stops = stops-by_kind fault.kind fault.byte source r.bytes [] (λ shown. record {
     sessions = 1;
     deliveries = [];
-    fails = front source (r.first of);
-    shown = inl (refl, opening-shown fault to r.bytes of r.stops);
-    at_once = λ other. inl (refl, opening-before fault to r.bytes (of, other) r.stops);
+    fails = front source (r.first shown);
+    shown = inl (refl, opening-shown fault to r.bytes shown r.stops);
+    at_once = λ other. inl (refl, opening-before fault to r.bytes (shown, other) r.stops);
     ran = ran-none 1;
   })
       (λ e. none-run r.bytes (opening-read fault to r.bytes e r.stops))
       (λ e. ⊎_elim (λ f. inl (none-run r.bytes f)) (λ f. inr (none-run (without_last r.bytes) f)) (opening-memory fault to r.bytes e r.stops));
 }
   where
-    front : (s : Option (List ℕ)) → IfSome s (λ left. Rattle.feed_frames.specs.Answers.OpeningFails left fault.kind fault.byte) → IfSome s (λ bytes. FeedFails bytes 1 1 [] fault.kind fault.byte)
+    front : (s : Option (List ℕ)) → IfSome s (λ left. OpeningFails left fault.kind fault.byte) → IfSome s (λ bytes. FeedFails bytes 1 1 [] fault.kind fault.byte)
     front None h = tt
     front (Some bytes) h = inl (refl, h)
 
@@ -397,6 +399,7 @@ last-delivery st (d ∷ ds) items h = last-delivery (after_delivery st d) ds ite
 asks-as : (a b : List ℕ) (d e : RawDelivery) → a ≡ b → d ≡ e → AsksOther a d → AsksOther b e
 asks-as a b d e same is h = subst (λ (t : List ℕ). AsksOther t e) same (subst (λ (k : RawDelivery). AsksOther a k) is h)
 
+-- why a delivery that was read was not run
 stops-of : (source : Option (List ℕ)) (sessions : ℕ) (ds : List (List Item)) (items : List Item) (d : RawDelivery) (out text : List ℕ)
     → thread_text 1 (deliveries_of (ds ++ items ∷ [])) ≡ text → delivery_of items ≡ d → IsFeed 1 sessions (ds ++ items ∷ []) → IsFeed 1 sessions ds → RanAll sessions (deliveries_of ds) out
     → (e : Refusal) → DeliveryStops d text e → Stops (ending_of (Err e)) source (read_bytes sessions (ds ++ items ∷ [])) out

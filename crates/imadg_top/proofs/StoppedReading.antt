@@ -10,7 +10,7 @@ use Rattle.feed_frames.proofs.Told.{frame_more, first_more}
 use Rattle.feed_frames.specs.declared.fault.FeedFault.{FeedFault}
 use Rattle.feed_frames.specs.Frames.{FrameStops}
 use Rattle.feed_frames.specs.Intake.{fault_byte}
-use Rattle.feed_frames.specs.Answers.{IsOfBytes, MagicStops, OpeningStops}
+use Rattle.feed_frames.specs.Answers.{IsOfBytes, MagicStops, OpeningStops, OpeningFails}
 
 -- ---- some bytes and others after them, without the last byte
 
@@ -136,9 +136,6 @@ magic-before kinds.TooManyCommands left bytes o s = absurd s
 
 -- ---- in the opening
 
-abbrev pub OpeningFails : List ℕ → FeedKind → ℕ → Type 0
-OpeningFails bytes kind byte = MagicFails bytes kind byte ⊎ HeaderFails bytes kind byte
-
 -- nothing is wrong with these bytes of an opening but that they end
 abbrev pub IsOpeningFront : List ℕ → Type 0
 IsOpeningFront bytes = OpeningFails bytes kinds.Truncated (length bytes)
@@ -202,7 +199,7 @@ pub delivery-read : (st : Standing) (earlier : List ℕ) (before : List Item) (r
     → IsDeliveryFront st earlier (items_bytes before ++ rest)
 delivery-read st earlier before rest left k e items stops = frame-part st earlier before rest items (part-read (frame_fault st before) left rest k e stops)
 
--- the same without the last byte: what is left of all bytes
+-- the same of the bytes without the last: it is one of the delivery's
 pub record IsFrontBefore (st : Standing) (earlier bytes : List ℕ) : Type 0 where
   pub rest : List ℕ
   pub spelled : without_last (earlier ++ bytes) ≡ earlier ++ rest

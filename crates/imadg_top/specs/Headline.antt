@@ -53,7 +53,7 @@ deliveries_of deliveries = map delivery_of deliveries
 abbrev pub CountsSome : CommandText → Type 0
 CountsSome c = (obj : ℕ) × Counts c.text obj
 
--- each line of a delivery counts rows, all of them in the store, at the SCN of the delivery's end
+-- each line of a delivery replies to a count at the SCN of the delivery's end; all rows come from the store
 abbrev pub CountsAtEnd : Lines → Type 0
 CountsAtEnd l = AllByRecursion (λ line. (rows : Option ℕ) × (line.reply ≡ count_reply l.end rows)) l.list
 
@@ -87,7 +87,8 @@ abbrev pub IsFeedFront : List ℕ → ℕ → List (List Item) → Type 0
 IsFeedFront bytes sessions deliveries = FeedFails bytes 1 sessions deliveries kinds.Truncated (length bytes)
 
 -- The bytes of the source have this first fault, and the deliveries before it were run. No more bytes were
--- taken than show it: they have it themselves, and without the last of them nothing is wrong but the end.
+-- taken than show it: they have it themselves, and, where it is not that they end, they have no other fault
+-- than that without the last of them.
 pub record HasFeedFault (source : Option (List ℕ)) (kind : FeedKind) (byte : ℕ) (taken written : List ℕ) : Type 0 where
   pub sessions : ℕ
   pub deliveries : List (List Item)
@@ -122,7 +123,8 @@ pub record HasThreads (taken written : List ℕ) : Type 0 where
   pub read : taken ≡ opening_bytes threads sessions
   pub none : written ≡ []
 
--- the last delivery has a vector that is not served or an entry that is not sound, or a command that is no count
+-- the records of the last delivery can all be read, and it has a vector that is not served, an entry that is
+-- not sound or a command that is no count
 pub record IsUnbuilt (taken written : List ℕ) : Type 0 where
   pub one : HasOneMore taken written
   pub unbuilt : HasUntaken (thread_text 1 (all_of one)) ⊎ AsksOther (thread_text 1 (all_of one)) (delivery_of one.last)
@@ -144,7 +146,8 @@ pub record IsCutTranscript (taken written : List ℕ) : Type 0 where
   pub some : cut ≢ []
   pub written_is : written ≡ before ++ front
 
--- How the run of a feed stops, before a line is written that says so.
+-- How the run of a feed stops, before a line is written that says so. Where memory was wanting, a delivery
+-- that the last byte taken ended may not have been run.
 abbrev pub Stops : Ending → Option (List ℕ) → List ℕ → List ℕ → Type 0
 Stops FeedRead source taken written = HasEnded taken written
 Stops WordsRefused source taken written = ⊥
@@ -172,7 +175,7 @@ pub record StopsWithLine (ending : Ending) (source : Option (List ℕ)) (taken w
   pub stops : Stops ending source taken before
   pub then_line : written ≡ before ++ line_of ending
 
--- the endings that a line tells
+-- the endings of the run of a feed that a line tells
 abbrev pub HasLine : Ending → Type 0
 HasLine (FeedRefused kind byte) = Unit {0}
 HasLine (RedoRefused fault) = Unit {0}
@@ -218,10 +221,17 @@ Ends words ending source taken written =
 abbrev pub counted : List ℕ → ℕ
 counted bytes = min (length bytes) (2 ^ 64 - 1)
 
--- The headline: what was taken of the source and written to the sink, the two counts, and how the run
--- ended. A fault of the source or the sink ends it: the count of faults rose then, and is as before at every
--- other ending.
-pub record Headline (words : List (List ℕ)) (source rest : Option (List ℕ)) (sink held : Option (List ℕ)) (reads reads_now writes writes_now : ℕ) (outcome : Outcome) : Type 0 where
+-- The count of faults of the source, or of the sink, rose where that ended the run (or it stands at its last
+-- value), and is as before at every other ending.
+pub record HasCauses (ending : Ending) (read_faults read_faults_now write_faults write_faults_now : ℕ) : Type 0 where
+  pub read_fault : ending ≡ SourceFailed → Rose read_faults read_faults_now
+  pub no_read_fault : ending ≢ SourceFailed → read_faults_now ≡ read_faults
+  pub write_fault : ending ≡ SinkFailed → Rose write_faults write_faults_now
+  pub no_write_fault : ending ≢ SinkFailed → write_faults_now ≡ write_faults
+
+-- The headline: what was taken of the source and written to the sink, the two counts, how the run ended and
+-- what caused it.
+pub record Headline (words : List (List ℕ)) (source rest : Option (List ℕ)) (sink held : Option (List ℕ)) (read_faults read_faults_now write_faults write_faults_now : ℕ) (outcome : Outcome) : Type 0 where
   pub taken : List ℕ
   pub written : List ℕ
   pub took : Consumes source rest taken
@@ -231,10 +241,7 @@ pub record Headline (words : List (List ℕ)) (source rest : Option (List ℕ)) 
   pub ending : Ending
   pub status : outcome.status ≡ status_of ending
   pub ends : Ends words ending source taken written
-  pub read_fault : ending ≡ SourceFailed → Rose reads reads_now
-  pub no_read_fault : ending ≢ SourceFailed → reads_now ≡ reads
-  pub write_fault : ending ≡ SinkFailed → Rose writes writes_now
-  pub no_write_fault : ending ≢ SinkFailed → writes_now ≡ writes
+  pub causes : HasCauses ending read_faults read_faults_now write_faults write_faults_now
 
 -- bytes that begin with a whole feed, where the redo of none of its deliveries has a fault
 pub record IsGoodFeed (bytes : List ℕ) : Type 0 where
@@ -247,8 +254,8 @@ pub record IsGoodFeed (bytes : List ℕ) : Type 0 where
 
 -- Over such bytes, with accepted words, and where neither count of faults rose and nothing was asked that is not
 -- built, the feed is read to its end, or memory was wanting.
-abbrev pub IsComplete : List (List ℕ) → Option (List ℕ) → (reads reads_now writes writes_now : ℕ) → Outcome → Type 0
-IsComplete words source reads reads_now writes writes_now outcome =
+abbrev pub IsComplete : List (List ℕ) → Option (List ℕ) → (read_faults read_faults_now write_faults write_faults_now : ℕ) → Outcome → Type 0
+IsComplete words source read_faults read_faults_now write_faults write_faults_now outcome =
     (bytes : List ℕ) → source ≡ Some bytes → IsGoodFeed bytes → workers_of words ≢ None
-    → (Rose reads reads_now → ⊥) → (Rose writes writes_now → ⊥) → outcome.status ≢ status_of NotBuilt
+    → (Rose read_faults read_faults_now → ⊥) → (Rose write_faults write_faults_now → ⊥) → outcome.status ≢ status_of NotBuilt
     → (outcome.status ≡ status_of FeedRead) ⊎ (outcome.status ≡ status_of NoMemory)

@@ -75,45 +75,37 @@ pub record RunStops (source from sink held : Option (List ℕ)) (taken written :
   pub written_count : written ≡ counted output
   pub stops : Stops ending source bytes output
 
--- the count of faults of the source or of the sink rose where it ended the run, and nowhere else
-pub record HasCauses (ending : Ending) (reads reads_now writes writes_now : ℕ) : Type 0 where
-  pub read_fault : ending ≡ SourceFailed → Rose reads reads_now
-  pub no_read_fault : ending ≢ SourceFailed → reads_now ≡ reads
-  pub write_fault : ending ≡ SinkFailed → Rose writes writes_now
-  pub no_write_fault : ending ≢ SinkFailed → writes_now ≡ writes
-
 -- a piece was written, or a front of it where the sink failed
-pub record WroteFront (sink held : Option (List ℕ)) (before after : ℕ) (piece : List ℕ) (writes writes_now : ℕ) : Type 0 where
+pub record WroteFront (sink held : Option (List ℕ)) (before after : ℕ) (piece : List ℕ) (write_faults write_faults_now : ℕ) : Type 0 where
   pub front : List ℕ
   pub cut : List ℕ
   pub split : front ++ cut ≡ piece
   pub some : cut ≢ []
   pub wrote : Appends sink held front
   pub count : (output : List ℕ) → before ≡ counted output → after ≡ counted (output ++ front)
-  pub fault : Rose writes writes_now
-  pub later : writes ≤ writes_now
+  pub fault : Rose write_faults write_faults_now
 
-pub record WrotePiece (sink held : Option (List ℕ)) (before after : ℕ) (piece : List ℕ) (writes writes_now : ℕ) : Type 0 where
+pub record WrotePiece (sink held : Option (List ℕ)) (before after : ℕ) (piece : List ℕ) (write_faults write_faults_now : ℕ) : Type 0 where
   pub wrote : Appends sink held piece
   pub count : (output : List ℕ) → before ≡ counted output → after ≡ counted (output ++ piece)
-  pub no_fault : writes_now ≡ writes
+  pub no_fault : write_faults_now ≡ write_faults
 
-abbrev pub Writes : (sink held : Option (List ℕ)) (before after : ℕ) (piece : List ℕ) (writes writes_now : ℕ) → Result (Unit {0}) Refusal → Type 0
-Writes sink held before after piece writes writes_now (Ok done) = WrotePiece sink held before after piece writes writes_now
-Writes sink held before after piece writes writes_now (Err (refusals.Feed fault)) = ⊥
-Writes sink held before after piece writes writes_now (Err (refusals.Redo fault)) = ⊥
-Writes sink held before after piece writes writes_now (Err refusals.NotBuilt) = ⊥
-Writes sink held before after piece writes writes_now (Err refusals.Write) = WroteFront sink held before after piece writes writes_now
-Writes sink held before after piece writes writes_now (Err refusals.Memory) = ⊥
+abbrev pub Writes : (sink held : Option (List ℕ)) (before after : ℕ) (piece : List ℕ) (write_faults write_faults_now : ℕ) → Result (Unit {0}) Refusal → Type 0
+Writes sink held before after piece write_faults write_faults_now (Ok done) = WrotePiece sink held before after piece write_faults write_faults_now
+Writes sink held before after piece write_faults write_faults_now (Err (refusals.Feed fault)) = ⊥
+Writes sink held before after piece write_faults write_faults_now (Err (refusals.Redo fault)) = ⊥
+Writes sink held before after piece write_faults write_faults_now (Err refusals.NotBuilt) = ⊥
+Writes sink held before after piece write_faults write_faults_now (Err refusals.Write) = WroteFront sink held before after piece write_faults write_faults_now
+Writes sink held before after piece write_faults write_faults_now (Err refusals.Memory) = ⊥
 
 -- A line was written whole, and the status is its own; or a front of it, and the status is that of a failed sink.
-abbrev pub Tells : (sink held : Option (List ℕ)) (before after : ℕ) (line : List ℕ) (writes writes_now status result : ℕ) → Type 0
-Tells sink held before after line writes writes_now status result =
-    (WrotePiece sink held before after line writes writes_now × (result ≡ status))
-    ⊎ (WroteFront sink held before after line writes writes_now × (result ≡ status_of SinkFailed))
+abbrev pub Tells : (sink held : Option (List ℕ)) (before after : ℕ) (line : List ℕ) (write_faults write_faults_now status result : ℕ) → Type 0
+Tells sink held before after line write_faults write_faults_now status result =
+    (WrotePiece sink held before after line write_faults write_faults_now × (result ≡ status))
+    ⊎ (WroteFront sink held before after line write_faults write_faults_now × (result ≡ status_of SinkFailed))
 
 -- The line of an ending was told; or there was no memory for it, and nothing was written.
-abbrev pub IsEnded : Ending → (sink held : Option (List ℕ)) (before after writes writes_now result : ℕ) → Type 0
-IsEnded ending sink held before after writes writes_now result =
-    Tells sink held before after (line_of ending) writes writes_now (status_of ending) result
-    ⊎ (WrotePiece sink held before after [] writes writes_now × (result ≡ status_of NoMemory) × HasLine ending)
+abbrev pub IsEnded : Ending → (sink held : Option (List ℕ)) (before after write_faults write_faults_now result : ℕ) → Type 0
+IsEnded ending sink held before after write_faults write_faults_now result =
+    Tells sink held before after (line_of ending) write_faults write_faults_now (status_of ending) result
+    ⊎ (WrotePiece sink held before after [] write_faults write_faults_now × (result ≡ status_of NoMemory) × HasLine ending)

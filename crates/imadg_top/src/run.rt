@@ -1,6 +1,7 @@
 ghost use Rattle.std.specs.Prelude.{◌≡◌};
 ghost use Rattle.feed_frames.specs.State.{fresh};
-ghost use Rattle.imadg_top.specs.Progress.{RunStops, HasCauses, Writes, ending_of};
+ghost use Rattle.imadg_top.specs.Headline.{HasCauses};
+ghost use Rattle.imadg_top.specs.Progress.{RunStops, Writes, ending_of};
 
 use crate::applier::Standby;
 use crate::refusal::Refusal;

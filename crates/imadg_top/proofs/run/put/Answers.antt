@@ -15,5 +15,4 @@ returns-else-wrote g c =
       wrote = c.write_whole-wrote.ensures.bytes;
       count = λ output e. count-more c.args.written.now n _ output (take n piece) (length-take-le n piece c.write_whole-wrote.ensures.count) c.saturating_add.ensures e;
       fault = c.write_whole-wrote.ensures.failed c.if-wrote.false;
-      later = c.write_whole-wrote.ensures.later;
     }
