@@ -13,6 +13,7 @@ pub struct Calls {
 }
 
 impl Calls {
+    /// No call was made yet; those whose numbers, from 1, stand in `failing` are to fail.
     pub fn new(failing: Vec<u64>) -> Calls
         ensures { result ≡ record { made = 0; failing = failing; faults = 0 } }
     {

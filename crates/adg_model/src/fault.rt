@@ -2,17 +2,29 @@
 /// source failed, or memory was wanting.
 #[derive(Clone, Copy, Debug, PartialEq, Eq)]
 pub enum FeedKind {
+    /// The first eight bytes are others.
     BadMagic,
+    /// The tag is none of the six.
     BadTag,
+    /// The frame may not stand here.
     BadOrder,
+    /// The tag does not allow the length.
     BadLength,
+    /// The payloads of the delivery, or the redo of the feed, pass their limit.
     TooLarge,
+    /// One end of a delivery too many.
     TooManyDeliveries,
+    /// There is no such thread.
     BadThread,
+    /// There is no such session.
     BadSession,
+    /// One command of the session too many.
     TooManyCommands,
+    /// The input ends inside a frame, or where one has to begin.
     Truncated,
+    /// The source failed.
     Read,
+    /// Memory was wanting.
     Memory,
 }
 

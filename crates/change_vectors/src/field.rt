@@ -17,6 +17,7 @@ pub struct Change {
     pub slot: u8,
 }
 
+/// The byte at the front and the bytes after it; `Bad` where there is none.
 pub fn u8_at(bytes: &[u8]) -> Result<(u8, &[u8]), Unread>
     ensures { Gives (λ x. (x.0, x.1.now)) result (byte_at bytes.now) }
 {
@@ -26,6 +27,7 @@ pub fn u8_at(bytes: &[u8]) -> Result<(u8, &[u8]), Unread>
     }
 }
 
+/// The number in the two bytes at the front and the bytes after it; `Bad` where there are fewer.
 pub fn u16_at(bytes: &[u8]) -> Result<(u16, &[u8]), Unread>
     ensures { Gives (λ x. (x.0, x.1.now)) result (number_at w16 bytes.now) }
 {
@@ -36,6 +38,7 @@ pub fn u16_at(bytes: &[u8]) -> Result<(u16, &[u8]), Unread>
     Ok((u16::from_be_bytes([front[0], front[1]]), rest))
 }
 
+/// The number in the eight bytes at the front and the bytes after it; `Bad` where there are fewer.
 pub fn u64_at(bytes: &[u8]) -> Result<(u64, &[u8]), Unread>
     ensures { Gives (λ x. (x.0, x.1.now)) result (number_at w64 bytes.now) }
 {

@@ -8,7 +8,8 @@ pub enum VectorsRefused {
     /// read and bytes remain, it is one more than the number of vectors.
     #[error("vector {index} cannot be read")]
     BadVector { index: u16 },
-    #[error("no memory")]
+    /// Want of memory.
+    #[error("want of memory")]
     Memory,
 }
 
@@ -21,7 +22,8 @@ pub enum WriteRefused {
     /// It is not too long, and its SCN or one of its vectors has no spelling.
     #[error("the record has no spelling")]
     BadForm,
-    #[error("no memory")]
+    /// Want of memory.
+    #[error("want of memory")]
     Memory,
 }
 

@@ -3,7 +3,9 @@ use std::alloc::{AllocError, AllocFailed};
 /// Why something is not read: memory was wanting, or no bytes that spell it are there.
 #[derive(Clone, Copy, Debug, PartialEq, Eq)]
 pub enum Unread {
+    /// Want of memory.
     Memory,
+    /// No bytes that spell it are there.
     Bad,
 }
 

@@ -116,7 +116,7 @@ StepAnswer Open old new from to result = AnswersDelivery old new from to result
 StepAnswer Ended old new from to result = (result ≡ Ok End) × (new ≡ old)
 StepAnswer (Failed fault) old new from to result = (result ≡ Err fault) × (new ≡ old)
 
--- the header is read, and neither the end nor a fault
+-- a call reads on: neither the end nor a fault was met; the header may still be unread
 abbrev pub IsReading : Phase → Type 0
 IsReading Fresh = Unit {0}
 IsReading Open = Unit {0}
