@@ -3,7 +3,6 @@
 ghost use Rattle.std.specs.Prelude.{◌≡◌, ℕ, ◌++◌, List, length};
 ghost use Rattle.adg_base.specs.declared.vector.Vector.{Vector};
 ghost use Rattle.adg_model.specs.Spelling.{vector_bytes, vectors_bytes, IsVector, AreVectors};
-ghost use Rattle.adg_model.specs.Laws.{NoPrefix};
 
 /// What was written is read again: vectors of one number and one spelling are the same, whatever
 /// follows, and no spelling of a vector begins that of another.
@@ -12,9 +11,4 @@ pub fn one_spelling()
         → vector_bytes a ++ x ≡ vector_bytes b ++ y → (a ≡ b) × (x ≡ y) }
     ensures vectors { (count : ℕ) (a b : List Vector) (x y : List ℕ) → AreVectors count a → AreVectors count b
         → length a ≡ length b → vectors_bytes a ++ x ≡ vectors_bytes b ++ y → (a ≡ b) × (x ≡ y) }
-{}
-
-/// No spelling of a record, which `write_record` gives, is the beginning of another record's.
-pub fn no_record_begins_another()
-    ensures { NoPrefix }
 {}
