@@ -269,12 +269,15 @@ header_payload_fault (threads ∷ []) = fails (not (is_in 8 threads)) BadThread
 header_payload_fault (threads ∷ sessions ∷ others) =
     fails (not (is_in 8 threads)) BadThread else_check fails (not (is_in 8 sessions)) BadSession
 
--- what is wrong with the first frame, which has to be the header
+-- the first frame has to be the header
+abbrev pub first_tag_fault : ℕ → Option FeedKind
+first_tag_fault tag = fails (not (is_tag tag)) BadTag else_check fails (not (tag == header_tag)) BadOrder
+
+-- what is wrong with the first frame
 unfoldable pub first_frame_fault : List ℕ → Option FeedKind
 first_frame_fault [] = None
 first_frame_fault (tag ∷ rest) =
-    fails (not (is_tag tag)) BadTag
-    else_check fails (not (tag == header_tag)) BadOrder
+    first_tag_fault tag
     else_check (if has_length rest then fails (not (is_length tag (stated rest))) BadLength else_check header_payload_fault (drop 4 rest) else None)
 
 -- the frame that begins here is cut short by the end of the input

@@ -3,7 +3,7 @@ use Rattle.std.proofs.Common.{◌≡◌, ◌≢◌, ℕ, ◌^◌, ◌<◌, ◌==
 use Rattle.std.specs.Int.{w32, to_be_bytes}
 use Rattle.std.proofs.lemmas.Nat.{from_be_bytes-to_be_bytes_4}
 use Rattle.std.proofs.lemmas.Grind.{common_steps}
-use Rattle.adg_model.specs.Feed.{IsIn, first_frame_fault, header_payload_fault, header_tag, header_bytes, magic, frame, fails, ◌else_check◌, has_length, stated, is_in, is_tag}
+use Rattle.adg_model.specs.Feed.{IsIn, first_frame_fault, first_tag_fault, header_payload_fault, header_tag, header_bytes, magic, frame, fails, ◌else_check◌, has_length, stated, is_in}
 use Rattle.adg_model.specs.declared.fault.FeedKind.{FeedKind}
 use Rattle.adg_model.specs.declared.fault.FeedKind.TheVariants as kind
 use Rattle.feed_frames.specs.declared.fault.FeedFault.{FeedFault}
@@ -11,7 +11,7 @@ use Rattle.feed_frames.specs.Intake.{Took, Misses, IsMissing, fault_byte}
 use Rattle.feed_frames.specs.Answers.{MagicStops}
 use Rattle.feed_frames.specs.Counts.{IsShown}
 use Rattle.feed_frames.specs.Frames.{StopsAfter}
-use Rattle.feed_frames.specs.Opening.{first_tag_fault, MagicMissing, NoOpening}
+use Rattle.feed_frames.specs.Opening.{MagicMissing, NoOpening}
 use Rattle.feed_frames.proofs.Taking.{took_both}
 use Rattle.feed_frames.proofs.Faults.{missing_stops, shown_stops, then_none, none_first}
 use Rattle.feed_frames.proofs.Stages.{no_length, cut_payload}
@@ -24,7 +24,7 @@ short_fault : (tag : ℕ) (rest : List ℕ) → length rest < 4 → first_frame_
 unfolding first_frame_fault
 short_fault tag rest short =
     let none : has_length rest ≡ false = grind (arith, common_steps) in
-    rw none (ap (λ x. fails (not (is_tag tag)) kind.BadTag else_check x) (then_none (fails (not (tag == header_tag)) kind.BadOrder)))
+    rw none (then_none (first_tag_fault tag))
 
 -- with the header's tag only the length and the payload are at fault
 header_fault : (n : ℕ) (payload : List ℕ) → n < 2 ^ 32 → first_frame_fault (header_tag ∷ to_be_bytes w32 n ++ payload) ≡ fails (not (n == 2)) kind.BadLength else_check header_payload_fault payload

@@ -1,9 +1,9 @@
 -- Where the source tells its bytes, what was taken shows the first fault of all of them.
-use Rattle.std.proofs.Common.{◌≡◌, ℕ, ◌+◌, ◌==◌, true, not, List, [], ◌∷◌, ◌++◌, length, take, Option, Some, None, inl, inr, refl, sym, ap, ◌∙◌, subst, arith, append_assoc, append-nil, length-append}
+use Rattle.std.proofs.Common.{◌≡◌, ℕ, ◌+◌, true, not, List, [], ◌∷◌, ◌++◌, length, take, Option, Some, None, inl, inr, refl, sym, ap, ◌∙◌, subst, arith, append_assoc, append-nil, length-append}
 use Rattle.std.specs.Prelude.{IfSome, Err}
 use Rattle.std.proofs.lemmas.List.{take_at}
 use Rattle.std.proofs.lemmas.Grind.{common_steps}
-use Rattle.adg_model.specs.Feed.{Item, Standing, FrameFails, DeliveryFails, MagicFails, ◌else_check◌, fails, has_length, stated, frame_fault, tag_fault, length_fault, payload_fault, first_frame_fault, header_payload_fault, items_bytes, magic, is_in, is_tag, is_length, header_tag}
+use Rattle.adg_model.specs.Feed.{Item, Standing, first_tag_fault, FrameFails, DeliveryFails, MagicFails, ◌else_check◌, fails, has_length, stated, frame_fault, tag_fault, length_fault, payload_fault, first_frame_fault, header_payload_fault, items_bytes, magic, is_in, is_length}
 use Rattle.adg_model.specs.declared.fault.FeedKind.{FeedKind}
 use Rattle.adg_model.specs.declared.fault.FeedKind.TheVariants as kind
 use Rattle.feed_frames.specs.declared.fault.FeedFault.{FeedFault}
@@ -50,20 +50,13 @@ header_more (t ∷ []) [] k h = h
 header_more (t ∷ []) (s ∷ more) k h = some_first (fails (not (is_in 8 t)) kind.BadThread) _ k h
 header_more (t ∷ s ∷ others) more k h = h
 
--- where only the tag is there
-first_kept : (tag : ℕ) (later : Option FeedKind) (k : FeedKind) → fails (not (is_tag tag)) kind.BadTag else_check (fails (not (tag == header_tag)) kind.BadOrder else_check None) ≡ Some k
-    → fails (not (is_tag tag)) kind.BadTag else_check (fails (not (tag == header_tag)) kind.BadOrder else_check later) ≡ Some k
-first_kept tag later k h =
-    let other = fails (not (tag == header_tag)) kind.BadOrder in
-    else_some (fails (not (is_tag tag)) kind.BadTag) (other else_check None) (other else_check later) k (λ (p : other else_check None ≡ Some k). some_first other later k (rw then_none at p)) h
-
 pub first_more : (bytes more : List ℕ) (k : FeedKind) → first_frame_fault bytes ≡ Some k → first_frame_fault (bytes ++ more) ≡ Some k
 unfolding first_frame_fault
 first_more [] more k h = cc
-first_more (tag ∷ []) more k h = first_kept tag _ k h
-first_more (tag ∷ x ∷ []) more k h = first_kept tag _ k h
-first_more (tag ∷ x ∷ y ∷ []) more k h = first_kept tag _ k h
-first_more (tag ∷ x ∷ y ∷ z ∷ []) more k h = first_kept tag _ k h
+first_more (tag ∷ []) more k h = some_first (first_tag_fault tag) _ k (rw then_none at h)
+first_more (tag ∷ x ∷ []) more k h = some_first (first_tag_fault tag) _ k (rw then_none at h)
+first_more (tag ∷ x ∷ y ∷ []) more k h = some_first (first_tag_fault tag) _ k (rw then_none at h)
+first_more (tag ∷ x ∷ y ∷ z ∷ []) more k h = some_first (first_tag_fault tag) _ k (rw then_none at h)
 first_more (tag ∷ x ∷ y ∷ z ∷ u ∷ payload) more k h =
     let there : has_length (x ∷ y ∷ z ∷ u ∷ payload) ≡ true = grind (arith, common_steps) in
     let still : has_length (x ∷ y ∷ z ∷ u ∷ (payload ++ more)) ≡ true = grind (arith, common_steps) in
@@ -71,9 +64,7 @@ first_more (tag ∷ x ∷ y ∷ z ∷ u ∷ payload) more k h =
     let later = header_more payload more k in
     let old = len else_check header_payload_fault payload in
     let new = len else_check header_payload_fault (payload ++ more) in
-    let other = fails (not (tag == header_tag)) kind.BadOrder in
-    rw still (else_some (fails (not (is_tag tag)) kind.BadTag) (other else_check old) (other else_check new) k
-    (else_some other old new k (else_some len (header_payload_fault payload) (header_payload_fault (payload ++ more)) k later)) (rw there at h))
+    rw still (else_some (first_tag_fault tag) old new k (else_some len (header_payload_fault payload) (header_payload_fault (payload ++ more)) k later) (rw there at h))
 
 pub frame_told : (check : List ℕ → Option FeedKind) → ((bytes more : List ℕ) (k : FeedKind) → check bytes ≡ Some k → check (bytes ++ more) ≡ Some k)
     → (k : FeedKind) (offset byte : ℕ) (rest left : List ℕ) → IsOfBytes k → FrameStops k check (Some left) rest → byte ≡ fault_byte k offset (offset + length rest) → FrameFails (check (rest ++ left)) offset (rest ++ left) k byte

@@ -1,17 +1,12 @@
 -- What is read of the magic and the header.
-use Rattle.std.specs.Prelude.{◌≡◌, ℕ, List, not, ◌==◌, Option}
-use Rattle.adg_model.specs.Feed.{IsHeader, fails, ◌else_check◌, is_tag, header_tag, opening_bytes, start}
+use Rattle.std.specs.Prelude.{◌≡◌, ℕ, List, Option}
+use Rattle.adg_model.specs.Feed.{IsHeader, opening_bytes, start}
 use Rattle.adg_model.specs.declared.fault.FeedKind.{FeedKind}
-use Rattle.adg_model.specs.declared.fault.FeedKind.TheVariants.{BadTag, BadOrder}
 use Rattle.feed_frames.specs.declared.counts.Progress.{Progress}
 use Rattle.feed_frames.specs.declared.fault.FeedFault.{FeedFault}
 use Rattle.feed_frames.specs.Intake.{Took}
 use Rattle.feed_frames.specs.Counts.{standing_of}
 use Rattle.feed_frames.specs.Answers.{MagicStops, OpeningStops}
-
--- the fault of the first frame's tag
-abbrev pub first_tag_fault : ℕ → Option FeedKind
-first_tag_fault tag = fails (not (is_tag tag)) BadTag else_check fails (not (tag == header_tag)) BadOrder
 
 -- some bytes were taken that are no magic
 pub record MagicMissing (from to : Option (List ℕ)) (first last : ℕ) (kind : FeedKind) : Type 0 where

@@ -1,9 +1,9 @@
 ghost use Rattle.std.specs.Prelude.{◌≡◌, ◌++◌, ℕ, List, [], ◌+◌, ◌^◌, ◌<◌, IfErr, OnOk, MatchResult};
-ghost use Rattle.adg_model.specs.Feed.{IsHeader, first_frame_fault, magic, header_bytes, header_tag, start};
+ghost use Rattle.adg_model.specs.Feed.{IsHeader, first_frame_fault, first_tag_fault, magic, header_bytes, header_tag, start};
 ghost use Rattle.feed_frames.specs.Intake.{Took, HasCauseIn};
 ghost use Rattle.feed_frames.specs.Counts.{standing_of};
 ghost use Rattle.feed_frames.specs.Frames.{StopsAfter};
-ghost use Rattle.feed_frames.specs.Opening.{first_tag_fault, ReadOpening, MagicMissing, NoOpening};
+ghost use Rattle.feed_frames.specs.Opening.{ReadOpening, MagicMissing, NoOpening};
 ghost use Rattle.feed_frames.specs.Counts.{IsShown, Judges};
 ghost use Rattle.feed_frames.specs.Answers.{IsCausedBy};
 
