@@ -1,5 +1,8 @@
 ghost use Rattle.std.specs.Prelude.{◌≡◌};
 
+/// The most bytes of a command text.
+const MOST_TEXT: u32 = 1_024;
+
 /// The tag of a frame of a delivery.
 #[derive(Clone, Copy, Debug, PartialEq, Eq)]
 pub enum Tag {
@@ -20,7 +23,7 @@ impl Tag {
     {
         match self {
             Tag::Redo | Tag::Schedule => len >= 1,
-            Tag::Command => 1 <= len && len <= 1_025,
+            Tag::Command => 1 <= len && len <= MOST_TEXT + 1,
             Tag::End | Tag::Stop => len == 0,
         }
     }
