@@ -15,7 +15,7 @@ pub fn block_shard(obj: Obj, block: u16) -> u8
     ensures value { result ≡ shard_of_block obj block }
     ensures range { result < 64 }
 {
-    ((u32::from(obj.get()) + u32::from(block)) % 64) as u8
+    ((u32::from(obj.get()) + u32::from(block)) % u32::from(SHARDS)) as u8
 }
 
 /// The shard of a transaction.
@@ -23,7 +23,7 @@ pub fn txn_shard(txn: Txn) -> u8
     ensures value { result ≡ shard_of_txn txn }
     ensures range { result < 64 }
 {
-    (txn.get() % 64) as u8
+    (txn.get() % u64::from(SHARDS)) as u8
 }
 
 /// The shard of an object's own entries.
@@ -31,7 +31,7 @@ pub fn object_shard(obj: Obj) -> u8
     ensures value { result ≡ shard_of_object obj }
     ensures range { result < 64 }
 {
-    (obj.get() % 64) as u8
+    (obj.get() % u16::from(SHARDS)) as u8
 }
 
 /// The unit shard of an extent.
@@ -39,7 +39,7 @@ pub fn unit_shard(obj: Obj, extent: u16) -> u8
     ensures value { result ≡ shard_of_unit obj extent }
     ensures range { result < 32 }
 {
-    ((u32::from(obj.get()) + u32::from(extent)) % 32) as u8
+    ((u32::from(obj.get()) + u32::from(extent)) % u32::from(UNIT_SHARDS)) as u8
 }
 
 /// The worker, of so many, whose share a shard belongs to.
