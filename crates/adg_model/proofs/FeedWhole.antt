@@ -198,24 +198,6 @@ pub good_stop : (st : Standing) (before : List Item) → before ≡ [] → (more
 good_stop st before none more =
     subst (λ is. IsGood st is (stop_bytes ++ more)) (sym none) (frame_good st [] stop_tag [] more (omega arith) refl refl (stop_first st [] more))
 
-pub no_fault_item : (st : Standing) (before : List Item) (item : Item) → IsItem st before item → (more : List ℕ) → frame_fault st before (item_bytes item ++ more) ≡ None
-no_fault_item st before item h more = let good = good_item st before item h more in good.passes
-
-pub no_fault_end : (st : Standing) (before : List Item) → st.ends < most_deliveries → (more : List ℕ) → frame_fault st before (end_bytes ++ more) ≡ None
-no_fault_end st before few more = let good = good_end st before few more in good.passes
-
-pub no_fault_stop : (st : Standing) (before : List Item) → before ≡ [] → (more : List ℕ) → frame_fault st before (stop_bytes ++ more) ≡ None
-no_fault_stop st before none more = let good = good_stop st before none more in good.passes
-
-pub no_cut_item : (st : Standing) (before : List Item) (item : Item) → IsItem st before item → (more : List ℕ) → IsCut (item_bytes item ++ more) → ⊥
-no_cut_item st before item h more = let good = good_item st before item h more in good.whole
-
-pub no_cut_end : (more : List ℕ) → IsCut (end_bytes ++ more) → ⊥
-no_cut_end more = frame_not_cut end_tag [] more (omega arith)
-
-pub no_cut_stop : (more : List ℕ) → IsCut (stop_bytes ++ more) → ⊥
-no_cut_stop more = frame_not_cut stop_tag [] more (omega arith)
-
 -- ---- a whole feed has no fault
 
 none_fails : (check : Option FeedKind) (offset : ℕ) (rest : List ℕ) (kind : FeedKind) (byte : ℕ) → check ≡ None → (IsCut rest → ⊥) → FrameFails check offset rest kind byte → ⊥

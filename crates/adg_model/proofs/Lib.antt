@@ -3,6 +3,7 @@ pub mod RowLaws
 pub mod TranscriptLaws
 pub mod VectorsSpelled
 pub mod DeliveryLaws
+pub mod Bytes
 pub mod RecordsFault
 pub mod RecordsSpelled
 pub mod RecordsSplit

@@ -40,6 +40,3 @@ whole_range last bytes len good bad = grind arith
 
 pub whole_order : (last : ℕ) (bytes : List ℕ) (len : ℕ) → trailer_at bytes len ≡ len → 1 ≤ stated_scn bytes → stated_scn bytes < 2 ^ 48 → stated_scn bytes ≤ last → whole_fault last bytes len ≡ Some ScnOrder
 whole_order last bytes len good from to bad = grind arith
-
-pub whole_good : (last : ℕ) (bytes : List ℕ) (len : ℕ) → trailer_at bytes len ≡ len → 1 ≤ stated_scn bytes → stated_scn bytes < 2 ^ 48 → last < stated_scn bytes → whole_fault last bytes len ≡ None
-whole_good last bytes len good from to rises = grind arith

@@ -1,10 +1,9 @@
 -- What stands where in the spelling of a record, and so that it is read back.
-use Rattle.std.proofs.Common.{◌≡◌, ℕ, ◌-◌, ◌<◌, ◌≤◌, ◌^◌, false, List, ◌∷◌, ◌++◌, length, get_or, take, drop, None, refl, sym, ap, ◌∙◌, append_assoc, arith, ⊎_elim}
-use Rattle.std.specs.Int.{w16, w64, to_be_bytes, from_be_bytes}
-use Rattle.std.proofs.lemmas.List.{take_at, drop_at, length-append, drop-drop}
+use Rattle.std.proofs.Common.{◌≡◌, ℕ, ◌-◌, ◌<◌, ◌≤◌, ◌^◌, List, ◌∷◌, ◌++◌, length, get_or, take, drop, refl, sym, ap, ◌∙◌, append_assoc, arith, ⊎_elim}
+use Rattle.std.specs.Int.{w16, w64, to_be_bytes}
+use Rattle.std.proofs.lemmas.List.{take_at, drop_at, length-append}
 use Rattle.std.proofs.lemmas.Nat.{from_be_bytes-to_be_bytes_2, from_be_bytes-to_be_bytes_8}
-use Rattle.adg_model.specs.Records.{Raw, raw_len, raw_bytes, IsRaw, Mark, IsPart, stated_len, stated_scn, record_fault}
-use Rattle.adg_model.proofs.RecordsFault.{trailer_at, fault_whole, whole_good}
+use Rattle.adg_model.specs.Records.{Raw, raw_len, raw_bytes, IsRaw, IsPart, stated_len, stated_scn}
 
 -- the length of a spelled record
 pub length-raw_bytes : (r : Raw) → length (raw_bytes r) ≡ raw_len r
@@ -17,7 +16,6 @@ pub record ReadsAs (r : Raw) (text rest : List ℕ) : Type 0 where
   pub scn : stated_scn text ≡ r.scn
   pub count : get_or text 10 0 ≡ r.count
   pub body : take (raw_len r - 13) (drop 11 text) ≡ r.body
-  pub trailer : trailer_at text (raw_len r) ≡ raw_len r
   pub rest_is : drop (raw_len r) text ≡ rest
   pub whole : raw_len r ≤ length text
 
@@ -25,18 +23,9 @@ tail-is : (r : Raw) (rest : List ℕ) → drop 11 (raw_bytes r ++ rest) ≡ r.bo
 unfolding raw_bytes
 tail-is r rest = append_assoc r.body (to_be_bytes w16 (raw_len r)) rest
 
--- the bytes of the vectors, and those behind them
+-- the bytes of the vectors
 body_is : (r : Raw) (rest : List ℕ) → take (raw_len r - 13) (drop 11 (raw_bytes r ++ rest)) ≡ r.body
 body_is r rest = rw (tail-is r rest) (take_at r.body (to_be_bytes w16 (raw_len r) ++ rest) (raw_len r - 13) (omega arith))
-
-seam_is : (r : Raw) (rest : List ℕ) → drop (raw_len r - 2) (raw_bytes r ++ rest) ≡ to_be_bytes w16 (raw_len r) ++ rest
-seam_is r rest =
-    let parts : drop (raw_len r - 13) (drop 11 (raw_bytes r ++ rest)) ≡ drop (raw_len r - 2) (raw_bytes r ++ rest) =
-    drop-drop (raw_len r - 13) 11 (raw_bytes r ++ rest) ∙ ap (λ (n : ℕ). drop n (raw_bytes r ++ rest)) (omega arith) in
-    sym parts ∙ rw (tail-is r rest) (drop_at r.body (to_be_bytes w16 (raw_len r) ++ rest) (raw_len r - 13) (omega arith))
-
-trailer_is : (r : Raw) (rest : List ℕ) → raw_len r < 2 ^ 16 → trailer_at (raw_bytes r ++ rest) (raw_len r) ≡ raw_len r
-trailer_is r rest lt = ap (λ (t : List ℕ). from_be_bytes w16 (take 2 t)) (seam_is r rest) ∙ from_be_bytes-to_be_bytes_2 (raw_len r) lt
 
 len_is : (r : Raw) (rest : List ℕ) → raw_len r < 2 ^ 16 → stated_len (raw_bytes r ++ rest) ≡ raw_len r
 unfolding raw_bytes
@@ -56,7 +45,6 @@ reads_as r rest good = record {
   scn = scn_is r rest good.to;
   count = count_is r rest;
   body = body_is r rest;
-  trailer = trailer_is r rest good.len;
   rest_is = drop_at (raw_bytes r) rest (raw_len r) (length-raw_bytes r);
   whole = omega (arith, length-raw_bytes r, length-append (raw_bytes r) rest);
 }
@@ -80,16 +68,8 @@ raw_bytes-apart a b x y good_a good_b e =
     let rest : x ≡ y = sym p.rest_is ∙ ap (λ (t : List ℕ). drop (raw_len a) t) e ∙ ap (λ (n : ℕ). drop n (raw_bytes b ++ y)) len ∙ q.rest_is in
     (raw_same a b scn count body, rest)
 
--- where a record's spelling begins there is a whole record, and nothing is wrong with it where it may follow
+-- where a record's spelling begins there is a whole record
 pub raw-no_part : (r : Raw) (rest : List ℕ) → IsRaw r → IsPart (raw_bytes r ++ rest) → ⊥
 raw-no_part r rest good part =
     let p = reads_as r rest good in
     ⊎_elim (λ few. omega (arith, p.whole, few)) (λ few. omega (arith, p.whole, p.len, few)) part
-
-pub raw-no_fault : (mark : Mark) (r : Raw) (rest : List ℕ) → IsRaw r → mark.ended ≡ false → mark.scn < r.scn → record_fault mark (raw_bytes r ++ rest) ≡ None
-raw-no_fault mark r rest good ended rises =
-    let p = reads_as r rest good in
-    let t = raw_bytes r ++ rest in
-    let trailer : trailer_at t (stated_len t) ≡ stated_len t = rw p.len p.trailer in
-    fault_whole mark t ended (omega (arith, p.len)) (omega (arith, p.len, p.whole))
-    ∙ whole_good mark.scn t (stated_len t) trailer (omega (arith, p.scn, good.from)) (omega (arith, p.scn, good.to)) (omega (arith, p.scn))

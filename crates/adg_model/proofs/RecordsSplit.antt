@@ -1,5 +1,5 @@
--- A text is the records of one list alone, and its records are those of its parts, however it is cut.
-use Rattle.std.proofs.Common.{◌≡◌, ℕ, ◌-◌, ◌<◌, ◌≤◌, true, false, List, [], ◌∷◌, ◌++◌, length, take, drop, Option, Some, None, refl, sym, ap, subst, ◌∙◌, append_assoc, arith, inl, inr}
+-- The records of a text are those of its parts, however it is cut.
+use Rattle.std.proofs.Common.{◌≡◌, ℕ, ◌-◌, ◌≤◌, true, false, List, [], ◌∷◌, ◌++◌, length, take, drop, Option, Some, None, sym, ap, ◌∙◌, append_assoc, arith, inl, inr}
 use Rattle.std.specs.List.{flat_map}
 use Rattle.std.specs.Prelude.{if◌then◌else◌, ◌==◌, nat_le, not, ◌||◌, ◌^◌}
 use Rattle.std.specs.Int.{w16, w64, from_be_bytes}
@@ -8,60 +8,9 @@ use Rattle.std.proofs.lemmas.List.{take-append-le, drop-append-le, length-append
 use Rattle.std.proofs.lemmas.Grind.{flat_map-append}
 use Rattle.adg_model.specs.declared.fault.FrameKind.{FrameKind}
 use Rattle.adg_model.specs.declared.fault.FrameKind.TheVariants.{BadTrailer, ScnRange, ScnOrder}
-use Rattle.adg_model.specs.Records.{Raw, raw_bytes, IsRaw, Mark, mark_of, mark_after, AreRaws, IsPart, stated_len, stated_scn, whole_fault, record_fault, SplitsFrom, FailsFrom}
+use Rattle.adg_model.specs.Records.{Raw, raw_bytes, Mark, mark_of, mark_after, AreRaws, stated_len, stated_scn, whole_fault, record_fault, SplitsFrom, FailsFrom}
 use Rattle.adg_model.proofs.RecordsFault.{trailer_at, fault_after_end, fault_nothing, fault_begun, fault_length, fault_part, fault_whole}
-use Rattle.adg_model.proofs.RecordsSpelled.{raw_bytes-apart, raw-no_part, raw-no_fault}
-
--- ---- one list of records alone
-
--- no record that may follow begins here
-abbrev pub NoRecord : Mark → List ℕ → Type 0
-NoRecord mark text = (r : Raw) (rest : List ℕ) → IsRaw r → mark.ended ≡ false → mark.scn < r.scn → text ≡ raw_bytes r ++ rest → ⊥
-
-pub NoRecord-in_part : (mark : Mark) (text : List ℕ) → IsPart text → NoRecord mark text
-NoRecord-in_part mark text part r rest good ended rises e = raw-no_part r rest good (subst IsPart e part)
-
-pub NoRecord-at_fault : (mark : Mark) (text : List ℕ) (kind : FrameKind) → record_fault mark text ≡ Some kind → NoRecord mark text
-NoRecord-at_fault mark text kind shown r rest good ended rises e =
-    let none : record_fault mark text ≡ None = ap (record_fault mark) e ∙ raw-no_fault mark r rest good ended rises in
-    absurd cc
-
-one_list : (mark : Mark) (rs ss : List Raw) (x y : List ℕ) → AreRaws mark rs → AreRaws mark ss → NoRecord (mark_after mark rs) x → NoRecord (mark_after mark ss) y → flat_map raw_bytes rs ++ x ≡ flat_map raw_bytes ss ++ y → (rs ≡ ss) × (x ≡ y)
-one_list mark [] [] x y rs_follow ss_follow no_x no_y e = (refl, e)
-one_list mark [] (s ∷ ss) x y rs_follow ss_follow no_x no_y e =
-    absurd (no_x s (flat_map raw_bytes ss ++ y) ss_follow.0 ss_follow.1 ss_follow.2 (e ∙ append_assoc (raw_bytes s) (flat_map raw_bytes ss) y))
-one_list mark (r ∷ rs) [] x y rs_follow ss_follow no_x no_y e =
-    absurd (no_y r (flat_map raw_bytes rs ++ x) rs_follow.0 rs_follow.1 rs_follow.2 (sym e ∙ append_assoc (raw_bytes r) (flat_map raw_bytes rs) x))
-one_list mark (r ∷ rs) (s ∷ ss) x y rs_follow ss_follow no_x no_y e =
-    let same : raw_bytes r ++ (flat_map raw_bytes rs ++ x) ≡ raw_bytes s ++ (flat_map raw_bytes ss ++ y) =
-    sym (append_assoc (raw_bytes r) (flat_map raw_bytes rs) x) ∙ e ∙ append_assoc (raw_bytes s) (flat_map raw_bytes ss) y in
-    let first = raw_bytes-apart r s (flat_map raw_bytes rs ++ x) (flat_map raw_bytes ss ++ y) rs_follow.0 ss_follow.0 same in
-    let back : s ≡ r = sym first.0 in
-    let later = one_list (mark_of r) rs ss x y rs_follow.3 (subst (λ (t : Raw). AreRaws (mark_of t) ss) back ss_follow.3) no_x (subst (λ (t : Raw). NoRecord (mark_after (mark_of t) ss) y) back no_y) first.1 in
-    (ap (λ (t : Raw). t ∷ rs) first.0 ∙ ap (λ (ts : List Raw). s ∷ ts) later.0, later.1)
-
--- the records and the rest of a text are its only ones
-pub SplitsFrom-unique : (mark : Mark) (text : List ℕ) (rs ss : List Raw) (x y : List ℕ) → SplitsFrom mark text rs x → SplitsFrom mark text ss y → (rs ≡ ss) × (x ≡ y)
-SplitsFrom-unique mark text rs ss x y p q =
-    one_list mark rs ss x y p.follow q.follow (NoRecord-in_part (mark_after mark rs) x p.part) (NoRecord-in_part (mark_after mark ss) y q.part) (sym p.spelled ∙ q.spelled)
-
--- the fault of a text and the records before it are its only ones
-pub FailsFrom-unique : (mark : Mark) (text : List ℕ) (rs ss : List Raw) (kind other : FrameKind) → FailsFrom mark text rs kind → FailsFrom mark text ss other → (rs ≡ ss) × (kind ≡ other)
-FailsFrom-unique mark text rs ss kind other p q =
-    let one = one_list mark rs ss p.rest q.rest p.follow q.follow (NoRecord-at_fault (mark_after mark rs) p.rest kind p.shown) (NoRecord-at_fault (mark_after mark ss) q.rest other q.shown) (sym p.spelled ∙ q.spelled) in
-    let same : record_fault (mark_after mark rs) p.rest ≡ record_fault (mark_after mark ss) q.rest =
-    ap (λ (ts : List Raw). record_fault (mark_after mark ts) p.rest) one.0 ∙ ap (record_fault (mark_after mark ss)) one.1 in
-    let both : Some kind ≡ Some other = sym p.shown ∙ same ∙ q.shown in
-    (one.0, cc)
-
--- a text has no fault, or has one
-pub SplitsFrom-not_fails : (mark : Mark) (text : List ℕ) (rs ss : List Raw) (x : List ℕ) (kind : FrameKind) → SplitsFrom mark text rs x → FailsFrom mark text ss kind → ⊥
-SplitsFrom-not_fails mark text rs ss x kind p q =
-    let one = one_list mark rs ss x q.rest p.follow q.follow (NoRecord-in_part (mark_after mark rs) x p.part) (NoRecord-at_fault (mark_after mark ss) q.rest kind q.shown) (sym p.spelled ∙ q.spelled) in
-    let same : record_fault (mark_after mark rs) x ≡ record_fault (mark_after mark ss) q.rest =
-    ap (λ (ts : List Raw). record_fault (mark_after mark ts) x) one.0 ∙ ap (record_fault (mark_after mark ss)) one.1 in
-    let both : None ≡ Some kind = sym p.good ∙ same ∙ q.shown in
-    absurd cc
+use Rattle.adg_model.proofs.LogLaws.{mark_after-append}
 
 -- ---- a fault stays, whatever comes behind it
 
@@ -128,10 +77,6 @@ record_fault-append mark text more kind =
     ]
 
 -- ---- one part after another
-
-pub mark_after-append : (mark : Mark) (rs ss : List Raw) → mark_after mark (rs ++ ss) ≡ mark_after (mark_after mark rs) ss
-mark_after-append mark [] ss = refl
-mark_after-append mark (r ∷ rs) ss = mark_after-append (mark_of r) rs ss
 
 pub AreRaws-append : (mark : Mark) (rs ss : List Raw) → AreRaws mark rs → AreRaws (mark_after mark rs) ss → AreRaws mark (rs ++ ss)
 AreRaws-append mark [] ss p q = q

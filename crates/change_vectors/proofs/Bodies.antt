@@ -7,7 +7,8 @@ use Rattle.adg_model.specs.Spelling.{vector_bytes, vectors_bytes, IsVector, AreV
 use Rattle.change_vectors.specs.declared.refused.VectorsRefused.{VectorsRefused}
 use Rattle.change_vectors.specs.declared.refused.VectorsRefused.TheVariants.{BadVector, Memory}
 use Rattle.change_vectors.specs.Reading.{vector_at, many_at}
-use Rattle.change_vectors.proofs.Readers.{IsBytes, apart, some, AreMany, many_reads}
+use Rattle.adg_model.proofs.Bytes.{IsBytes}
+use Rattle.change_vectors.proofs.Readers.{apart, some, AreMany, many_reads}
 use Rattle.change_vectors.proofs.Vectors.{vector_reads}
 
 -- no spelling of a vector begins that of another

@@ -5,10 +5,9 @@ use Rattle.std.proofs.lemmas.Bool.{ltb-false, le-ltb}
 use Rattle.std.proofs.lemmas.List.{take_at, drop_at, take-append-drop, length-append, length-take}
 use Rattle.std.proofs.lemmas.Nat.{be_bytes_2, be_bytes_8, from_be_bytes-to_be_bytes_2, from_be_bytes-to_be_bytes_8}
 use Rattle.change_vectors.specs.Reading.{byte_at, number_at, not_zero}
-use Rattle.change_vectors.proofs.Readers.{IsBytes, IsBytes-drop, IsBytes-take, IsBytes-rest, some_is, Takes, Reads}
-
-abbrev pub IsByte : ℕ → Type 0
-IsByte byte = byte < 256
+use Rattle.adg_model.specs.Records.{IsByte}
+use Rattle.adg_model.proofs.Bytes.{IsBytes, IsBytes-drop, IsBytes-take}
+use Rattle.change_vectors.proofs.Readers.{IsBytes-rest, some_is, Takes, Reads}
 
 byte_takes : (bytes : List ℕ) (x : ℕ) (rest : List ℕ) → IsBytes bytes → byte_at bytes ≡ Some (x, rest) → Takes bytes (x ∷ []) rest × IsByte x
 byte_takes [] x rest fits e = absurd cc

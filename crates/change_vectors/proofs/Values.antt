@@ -15,7 +15,8 @@ use Rattle.adg_base.specs.declared.value.Value.{Value}
 use Rattle.adg_base.specs.declared.value.Value.TheVariants.{Null, Int, Text}
 use Rattle.adg_model.specs.Spelling.{flag_byte, kind_byte, value_bytes, row_bytes, IsValue, IsRow}
 use Rattle.change_vectors.specs.Reading.{number_at, flag_of, kind_of, flag_at, kind_at, width_at, int_at, text_at, value_at, row_at, columns_at, many_at}
-use Rattle.change_vectors.proofs.Readers.{IsBytes, IsBytes-drop, IsBytes-rest, some_is, bind_some, Takes, Takes-then, Reads, step, many_reads}
+use Rattle.adg_model.proofs.Bytes.{IsBytes, IsBytes-drop}
+use Rattle.change_vectors.proofs.Readers.{IsBytes-rest, some_is, bind_some, Takes, Takes-then, Reads, step, many_reads}
 use Rattle.change_vectors.proofs.Fields.{wide64, number_reads, when_some}
 
 -- ---- tests

@@ -9,8 +9,10 @@ use Rattle.adg_base.specs.declared.vector.Vector.TheVariants.{Begin, Put, Delete
 use Rattle.adg_model.specs.Spelling.{row_bytes, txn_bytes, obj_bytes, change_bytes, vector_bytes, IsTxn, IsObj, IsRow, IsChange, IsCreate, IsVector}
 use Rattle.change_vectors.specs.declared.field.Change.{Change}
 use Rattle.change_vectors.specs.Reading.{◌>>=◌, byte_at, number_at, flag_at, kind_at, change_at, row_at, columns_at, begin_at, put_at, delete_at, undo_at, commit_at, abort_at, extents_at, create_at, drop_object_at, add_column_at, no_in_memory_at, end_at, fields_at, vector_at}
-use Rattle.change_vectors.proofs.Readers.{IsBytes, IsBytes-rest, some_is, Takes, Takes-then, Reads, step}
-use Rattle.change_vectors.proofs.Fields.{IsByte, byte_reads, wide16, wide64, number_reads, name_at, name_reads, when_some}
+use Rattle.adg_model.specs.Records.{IsByte}
+use Rattle.adg_model.proofs.Bytes.{IsBytes}
+use Rattle.change_vectors.proofs.Readers.{IsBytes-rest, some_is, Takes, Takes-then, Reads, step}
+use Rattle.change_vectors.proofs.Fields.{byte_reads, wide16, wide64, number_reads, name_at, name_reads, when_some}
 use Rattle.change_vectors.proofs.Values.{choose, Always, flag_bytes, kind_bytes, flag_reads, kind_reads, row_reads, columns_bytes, AreColumns, columns_reads}
 
 abbrev txn_reads : Reads (name_at w64) txn_bytes IsTxn

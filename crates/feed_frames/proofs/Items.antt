@@ -48,10 +48,6 @@ pub schedule_good : (st : Standing) (before : List Item) (payload : List ℕ) �
 schedule_good st before [] = refl
 schedule_good st before (x ∷ xs) = refl
 
--- the first byte alone decides on redo and on a command
-pub first_decides : (st : Standing) (before : List Item) (tag first : ℕ) (rest : List ℕ) → payload_fault st before tag (first ∷ rest) ≡ payload_fault st before tag (first ∷ [])
-first_decides st before tag first rest = refl
-
 -- what one more item adds to a list of those that give something
 pub gives_one : {Y : Type 0} (h : Item → Option Y) (before : List Item) (item : Item) (list : List Y) (y : Y) → list ≡ filter_map h before → filter_map h (item ∷ []) ≡ y ∷ [] → list ++ y ∷ [] ≡ filter_map h (before ++ item ∷ [])
 gives_one h before item list y e s = ap (λ l. l ++ y ∷ []) e ∙ sym (filter_map-append h before (item ∷ []) ∙ ap (λ l. filter_map h before ++ l) s)

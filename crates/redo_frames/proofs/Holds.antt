@@ -4,7 +4,8 @@ use Rattle.std.specs.Prelude.{IsSome}
 use Rattle.adg_model.specs.declared.fault.FrameKind.{FrameKind}
 use Rattle.adg_model.specs.Records.{Raw, Mark, mark_after, first_mark, SplitsFrom}
 use Rattle.adg_model.proofs.RecordsFault.{fault_begun}
-use Rattle.adg_model.proofs.RecordsSplit.{mark_after-append, FailsFrom-append}
+use Rattle.adg_model.proofs.LogLaws.{mark_after-append}
+use Rattle.adg_model.proofs.RecordsSplit.{FailsFrom-append}
 use Rattle.redo_frames.specs.Reading.{Stands, Gains}
 use Rattle.redo_frames.specs.Assembly.{Assembly, Holds, empty}
 use Rattle.redo_frames.proofs.Steps.{Stands-then}

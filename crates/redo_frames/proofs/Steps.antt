@@ -8,7 +8,8 @@ use Rattle.adg_model.specs.declared.fault.FrameKind.{FrameKind}
 use Rattle.adg_model.specs.Records.{Raw, raw_bytes, Mark, mark_of, mark_after, AreRaws, stated_len, record_fault, SplitsFrom}
 use Rattle.adg_model.proofs.RecordsSpelled.{length-raw_bytes}
 use Rattle.adg_model.proofs.RecordsFault.{fault_nothing, fault_begun}
-use Rattle.adg_model.proofs.RecordsSplit.{mark_after-append, AreRaws-append, record_fault-append, SplitsFrom-then, SplitsFrom-then_fails}
+use Rattle.adg_model.proofs.LogLaws.{mark_after-append}
+use Rattle.adg_model.proofs.RecordsSplit.{AreRaws-append, record_fault-append, SplitsFrom-then, SplitsFrom-then_fails}
 use Rattle.redo_frames.specs.Front.{raw_at, Begins, Stops}
 use Rattle.redo_frames.specs.Reading.{Stands, Reads, Gains, BeginsWith}
 

@@ -1,11 +1,11 @@
 -- The bytes of a whole record with nothing wrong are its spelling.
-use Rattle.std.proofs.Common.{◌≡◌, ℕ, ◌+◌, ◌-◌, ◌<◌, ◌≤◌, ◌^◌, false, List, [], ◌∷◌, ◌++◌, length, get_or, take, drop, drop-cons, refl, sym, ap, ◌∙◌, arith, inl, inr}
+use Rattle.std.proofs.Common.{◌≡◌, ℕ, ◌+◌, ◌-◌, ◌<◌, ◌≤◌, ◌^◌, false, List, [], ◌∷◌, ◌++◌, length, get_or, take, drop, drop-cons, refl, sym, ap, ◌∙◌, arith}
 use Rattle.std.specs.Int.{w16, w64, to_be_bytes, from_be_bytes}
 use Rattle.std.proofs.Math.Seq.{take-add}
-use Rattle.std.proofs.lemmas.Bool.{cases_lt}
-use Rattle.std.proofs.lemmas.List.{length-take, length-drop, get_or-drop, get_or-take, get_or_past}
+use Rattle.std.proofs.lemmas.List.{length-take, length-drop}
 use Rattle.std.proofs.lemmas.Nat.{be_bytes_2, be_bytes_8}
 use Rattle.adg_model.specs.Records.{Raw, raw_len, raw_bytes, Mark, stated_len, stated_scn}
+use Rattle.adg_model.proofs.Bytes.{IsBytes, IsBytes-drop, IsBytes-take}
 use Rattle.redo_frames.specs.Front.{raw_at, Begins}
 
 -- what the checks of a whole record find where it passes them
@@ -17,19 +17,6 @@ pub record PassesChecks (mark : Mark) (bytes : List ℕ) : Type 0 where
   pub from : 1 ≤ stated_scn bytes
   pub to : stated_scn bytes < 2 ^ 48
   pub rises : mark.scn < stated_scn bytes
-
-abbrev pub IsBytes : List ℕ → Type 0
-IsBytes bytes = (i : ℕ) → get_or bytes i 0 < 256
-
-IsBytes-drop : (n : ℕ) (bytes : List ℕ) → IsBytes bytes → IsBytes (drop n bytes)
-IsBytes-drop n bytes h i = rw get_or-drop (h (n + i))
-
-IsBytes-take : (n : ℕ) (bytes : List ℕ) → IsBytes bytes → IsBytes (take n bytes)
-IsBytes-take n bytes h i =
-    elim (cases_lt i n) [
-      | inl lt ↦ rw (get_or-take n bytes i 0 lt) (h i)
-      | inr le ↦ rw (get_or_past (take n bytes) i 0 (omega (arith, length-take n bytes))) (omega arith)
-    ]
 
 -- the length of the record that begins here
 raw_len-raw_at : (bytes : List ℕ) → 13 ≤ stated_len bytes → stated_len bytes ≤ length bytes → raw_len (raw_at bytes) ≡ stated_len bytes
