@@ -3,15 +3,12 @@
 
 use adg_io::gate::OpenGate;
 use adg_io::standard::{StdSink, StdSource};
-use imadg_top::standby;
+use imadg_top::{Status, standby};
 use std::alloc::{AllocError, Global};
 use std::env;
 use std::io::ErrorKind;
 use std::process::ExitCode;
 use std::rt::Env;
-
-/// The status of want of memory.
-const NO_MEMORY: u8 = 6;
 
 /// The words of the command line without the program's name. Where one of them is no UTF-8 there
 /// are none: neither is an accepted line.
@@ -25,7 +22,7 @@ fn words<H: Env + Alloc<A = Global>>(rt: &H) -> Result<Vec<String>, AllocError> 
 
 fn main(rt: HostRuntime) -> ExitCode {
     let Ok(words) = words(&rt) else {
-        return ExitCode::from(NO_MEMORY);
+        return ExitCode::from(Status::NoMemory.code());
     };
     let mut source = StdSource::new(rt.stdin());
     let mut sink = StdSink::new(rt.stdout());

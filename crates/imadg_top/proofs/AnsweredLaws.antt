@@ -5,23 +5,17 @@ use Rattle.std.proofs.lemmas.List.{take_more}
 use Rattle.std.proofs.lemmas.List.Elements.{filter_map-append}
 use Rattle.std.proofs.lemmas.Grind.{flat_map-append}
 use Rattle.adg_base.specs.declared.command.CommandText.{CommandText}
-use Rattle.std.specs.Option.{option_map}
-use Rattle.adg_model.specs.Database.{Database, Table}
-use Rattle.adg_model.specs.Query.{row_count}
+use Rattle.adg_model.specs.Database.{Database}
 use Rattle.adg_model.specs.Reply.{line_bytes}
 use Rattle.adg_model.specs.Transcript.{Asked, asked_from, all_asked, texts_of, text_of}
 use Rattle.imadg_top.specs.Answered.{AnswersAll, IsCounted, count_of}
 use Rattle.imadg_top.specs.Counting.{Counts, count_reply}
-use Rattle.imadg_top.specs.Store.{CountsRows}
 
 pub AllZip-append : {A B : Type 0} (R : A → B → Type 0) (xs vs : List A) (ys ws : List B) → AllZip R xs ys → AllZip R vs ws → AllZip R (xs ++ vs) (ys ++ ws)
 AllZip-append R [] vs [] ws h k = k
 AllZip-append R [] vs (y ∷ ys) ws h k = absurd h
 AllZip-append R (x ∷ xs) vs [] ws h k = absurd h
 AllZip-append R (x ∷ xs) vs (y ∷ ys) ws h k = (h.0, AllZip-append R xs vs ys ws h.1 k)
-
-pub answers-none : (db : Database) (d q : ℕ) (t : List ℕ) → AnswersAll db d q [] t t
-answers-none db d q t = record { lines = []; counted = tt; printed = sym (append-nil t) }
 
 pub answers-join : (db : Database) (d q : ℕ) (xs ys : List Asked) (a b c : List ℕ) → AnswersAll db d q xs a b → AnswersAll db d q ys b c → AnswersAll db d q (xs ++ ys) a c
 answers-join db d q xs ys a b c h k = record {
@@ -43,11 +37,6 @@ texts-more s cs i c h = ap (λ (l : List CommandText). texts_of s l) (take_more 
 -- a command of the session, and one of another
 pub text-own : (s : ℕ) (c : CommandText) → c.session ≡ s → texts_of s (c ∷ []) ≡ c.text ∷ []
 text-own s c h = ap (λ (b : Bool). filter_map (λ (o : Option (List ℕ)). o) ((if b then Some c.text else None) ∷ [])) (eq-eqb c.session s h)
-
--- what the store counts is the count
-pub count-is : (db : Database) (o : ℕ) (t : Option Table) (r : Option ℕ) → CountsRows t db o r → r ≡ option_map (λ (t : Table). row_count db.rows o t) t
-count-is db o None r h = h
-count-is db o (Some t) r h = h
 
 -- one line more
 pub answers-one : (db : Database) (d q s n : ℕ) (text old new : List ℕ) (obj : ℕ) (r : Option ℕ) → Counts text obj → r ≡ count_of db obj

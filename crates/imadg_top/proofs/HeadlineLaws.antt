@@ -1,15 +1,13 @@
 -- The headline, from how the run of a feed stopped and what was written to end it.
-use Rattle.std.proofs.Common.{◌≡◌, ◌≢◌, ◌++◌, ℕ, List, [], length, Option, Some, None, IfSome, ◌∷◌, append-nil, ◌∙◌, ap, sym, subst, refl, zero-add, inl, inr, ◌⊎◌, Err}
+use Rattle.std.proofs.Common.{◌≡◌, ◌≢◌, ◌++◌, ℕ, List, [], length, Option, Some, None, IfSome, ◌∷◌, append-nil, ◌∙◌, ap, sym, subst, refl, zero-add, inl, inr, ◌⊎◌}
 use Rattle.std.specs.Io.KnownBytes.{Consumes}
 use Rattle.adg_io.specs.Faults.{Rose}
 use Rattle.adg_model.specs.declared.fault.FeedKind.{FeedKind}
 use Rattle.adg_model.specs.declared.fault.FeedKind.TheVariants as kinds
 use Rattle.imadg_top.specs.declared.outcome.Outcome.{Outcome}
-use Rattle.imadg_top.specs.declared.refusal.Refusal.{Refusal}
-use Rattle.imadg_top.specs.declared.refusal.Refusal.TheVariants as refusals
 use Rattle.imadg_top.specs.Words.{workers_of, usage_line}
 use Rattle.imadg_top.specs.Headline.{Ending, HasCauses, FeedRead, WordsRefused, FeedRefused, RedoRefused, SourceFailed, SinkFailed, NoMemory, NotBuilt, HasLine, Stops, IsCutTranscript, Ends, Headline, IsGoodFeed, IsComplete, HasRedoFault, deliveries_of, line_of, status_of, counted}
-use Rattle.imadg_top.specs.Progress.{RunStops, WroteFront, WrotePiece, Writes, Tells, IsEnded, feed_ending}
+use Rattle.imadg_top.specs.Progress.{RunStops, WrotePiece, Tells, IsEnded, feed_ending}
 use Rattle.adg_model.specs.declared.fault.RedoFault.{RedoFault}
 use Rattle.adg_model.specs.Feed.{Item, FeedFails}
 use Rattle.adg_model.specs.declared.delivery.RawDelivery.{RawDelivery}
@@ -26,15 +24,6 @@ consumes-none (Some a) = refl
 -- nothing was written
 pub wrote-nothing : (a : Option (List ℕ)) (n w : ℕ) → WrotePiece a a n n [] w w
 wrote-nothing a n w = record { wrote = appends-none a; count = λ output e. e ∙ ap counted (sym (append-nil output)); no_fault = refl }
-
--- the piece was not written whole
-pub put-front : (sink held : Option (List ℕ)) (before after : ℕ) (piece : List ℕ) (writes writes_now : ℕ) (refusal : Refusal)
-    → Writes sink held before after piece writes writes_now (Err refusal) → WroteFront sink held before after piece writes writes_now
-put-front sink held before after piece writes writes_now (refusals.Feed f) h = absurd h
-put-front sink held before after piece writes writes_now (refusals.Redo f) h = absurd h
-put-front sink held before after piece writes writes_now refusals.NotBuilt h = absurd h
-put-front sink held before after piece writes writes_now refusals.Write h = h
-put-front sink held before after piece writes writes_now refusals.Memory h = absurd h
 
 -- a kind of fault that is neither the source's nor want of memory
 pub refused-ending : (kind : FeedKind) (byte : ℕ) → kind ≢ kinds.Read → kind ≢ kinds.Memory → feed_ending kind byte ≡ FeedRefused kind byte

@@ -1,5 +1,5 @@
 -- Lines that count rows are legal.
-use Rattle.std.proofs.Common.{◌≡◌, ◌≢◌, ◌++◌, ℕ, ◌+◌, ◌≤◌, Bool, true, false, List, [], ◌∷◌, length, map, Option, Some, None, append_assoc, append-nil, zero-add, add-zero, ◌∙◌, ap, sym, subst, refl, arith, inl, inr, lit≤, count_by}
+use Rattle.std.proofs.Common.{◌≡◌, ℕ, ◌≤◌, Bool, true, false, List, [], ◌∷◌, length, map, Option, Some, None, zero-add, ◌∙◌, ap, sym, subst, refl, arith, inl, inr}
 use Rattle.std.specs.List.{filter_map, list_any, AllByRecursion, AllZip}
 use Rattle.std.specs.Option.{option_map}
 use Rattle.std.specs.Prelude.{pos, filter}
@@ -20,7 +20,8 @@ use Rattle.adg_model.specs.Transcript.{Asked, Answers, all_asked, IsLegal, Rises
 use Rattle.adg_model.proofs.LogLaws.{frontier_one}
 use Rattle.imadg_top.specs.Answered.{AnswersAll, IsCounted, count_of}
 use Rattle.imadg_top.specs.Counting.{Counts, count_reply}
-use Rattle.imadg_top.specs.Run.{vectors_of, ran}
+use Rattle.imadg_top.specs.Run.{ran}
+use Rattle.imadg_top.specs.Served.{vectors_of}
 use Rattle.imadg_top.proofs.RunLaws.{database-at-ran}
 
 -- a filter that lets everything through

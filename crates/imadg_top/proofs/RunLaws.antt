@@ -1,5 +1,5 @@
 -- The walk over the log of one thread is the run of its vectors.
-use Rattle.std.proofs.Common.{◌≡◌, ◌++◌, ℕ, ◌+◌, ◌≤◌, List, [], ◌∷◌, map, ◌∙◌, ap, sym, subst, refl}
+use Rattle.std.proofs.Common.{◌≡◌, ◌++◌, ℕ, ◌+◌, ◌≤◌, ◌⊎◌, ⊎_elim, inl, inr, arith, suc, Bool, true, false, List, [], ◌∷◌, Contains, map, ◌∙◌, ap, sym, subst, refl}
 use Rattle.std.specs.List.{AllByRecursion}
 use Rattle.std.proofs.lemmas.Grind.{flat_map-append}
 use Rattle.adg_base.specs.declared.vector.Vector.{Vector}
@@ -11,8 +11,9 @@ use Rattle.adg_model.specs.Records.{Mark, first_mark, mark_of, mark_after, raw_o
 use Rattle.adg_model.specs.Log.{record_entries, thread_entries, numbered, merged_log, thread_mark, upto}
 use Rattle.adg_model.specs.Database.{Database, after, walked, no_database, database, database_at}
 use Rattle.adg_model.specs.Sound.{SoundFrom, IsSound}
-use Rattle.adg_model.proofs.LogLaws.{merged_one, upto_all, thread_entries_within, each_weaker, IsWithin}
-use Rattle.imadg_top.specs.Run.{vectors_of, ran, TakesAll, scn_after}
+use Rattle.adg_model.proofs.LogLaws.{merged_one, upto_all, thread_entries_within, each-append, each_weaker, IsWithin}
+use Rattle.imadg_top.specs.Run.{ran, TakesAll, scn_after}
+use Rattle.imadg_top.specs.Served.{is_served, vectors_of, AreServed, HasUnserved}
 
 abbrev vectors : List LogEntry → List Vector
 vectors es = map (λ e. e.vector) es
@@ -98,13 +99,17 @@ alone_all : (n : ℕ) (vs : List Vector) → AreVectors n vs → AreVectors 1 vs
 alone_all n [] h = tt
 alone_all n (v ∷ vs) h = (alone n v h.0, alone_all n vs h.1)
 
-all-append : (xs ys : List Vector) → AreVectors 1 xs → AreVectors 1 ys → AreVectors 1 (xs ++ ys)
-all-append [] ys h k = k
-all-append (x ∷ xs) ys h k = (h.0, all-append xs ys h.1 k)
-
 readable : (rs : List RedoRecord) → AreReadable rs → AreVectors 1 (vectors_of rs)
 readable [] h = tt
-readable (r ∷ rs) h = all-append r.vectors (vectors_of rs) (alone_all _ r.vectors h.0) (readable rs h.1)
+readable (r ∷ rs) h = each-append (IsVector 1) r.vectors (vectors_of rs) (alone_all _ r.vectors h.0) (readable rs h.1)
+
+-- vectors that the store takes are served, and their entries are sound
+served : (db : Database) (vs : List Vector) → TakesAll db vs → AllByRecursion (λ v. is_served v ≡ true) vs
+served db [] h = tt
+served db (v ∷ vs) h = (h.0.0, served (after db v) vs h.1)
+
+pub served-run : (rs : List RedoRecord) → TakesAll no_database (vectors_of rs) → AreServed rs
+served-run rs h = served no_database (vectors_of rs) h
 
 sound-from : (db : Database) (es : List LogEntry) → AreVectors 1 (vectors es) → TakesAll db (vectors es) → SoundFrom db es
 sound-from db [] h k = tt
@@ -117,6 +122,39 @@ sound-run rs h good takes =
     let same : vectors es ≡ vectors_of rs = vectors-numbered 0 (thread_entries 1 1 rs) ∙ vectors-thread 1 1 rs in
     subst IsSound (sym (merged_one rs h))
     (sound-from no_database es (subst (AreVectors 1) (sym same) (readable rs good)) (subst (TakesAll no_database) (sym same) takes))
+
+-- and the store takes vectors that are served and sound
+takes-from : (db : Database) (es : List LogEntry) → SoundFrom db es → AllByRecursion (λ v. is_served v ≡ true) (vectors es) → TakesAll db (vectors es)
+takes-from db [] h k = tt
+takes-from db (e ∷ es) h k = ((k.0, h.1), takes-from (after db e.vector) es h.2 k.1)
+
+takes-run : (rs : List RedoRecord) → AreRaws first_mark (map raw_of rs) → IsSound (merged_log (rs ∷ [])) → AreServed rs → TakesAll no_database (vectors_of rs)
+takes-run rs h sound all =
+    let es : List LogEntry = numbered 0 (thread_entries 1 1 rs) in
+    let same : vectors es ≡ vectors_of rs = vectors-numbered 0 (thread_entries 1 1 rs) ∙ vectors-thread 1 1 rs in
+    subst (TakesAll no_database) same
+    (takes-from no_database es (subst IsSound (merged_one rs h) sound) (subst (λ (vs : List Vector). AllByRecursion (λ v. is_served v ≡ true) vs) (sym same) all))
+
+-- all of some vectors are served, or one is not
+abbrev AllOrOne : List Vector → Type 0
+AllOrOne vs = AllByRecursion (λ v. is_served v ≡ true) vs ⊎ ((v : Vector) × Contains vs v × (is_served v ≡ false))
+
+all_or_one : (vs : List Vector) → AllOrOne vs
+all_or_one [] = inl tt
+all_or_one (v ∷ vs) = by_first (is_served v) refl (all_or_one vs)
+  where
+    by_first : (b : Bool) → is_served v ≡ b → AllOrOne vs → AllOrOne (v ∷ vs)
+    by_first false e later = inr (v, (0, omega arith, refl), e)
+    by_first true e (inl all) = inl (e, all)
+    by_first true e (inr some) = inr (some.0, (suc some.1.0, omega (arith, some.1.1), some.1.2), some.2)
+
+-- where the store does not take them all, the log is not sound or one is not served
+pub untaken-run : (rs : List RedoRecord) → AreRaws first_mark (map raw_of rs) → (TakesAll no_database (vectors_of rs) → ⊥) → (IsSound (merged_log (rs ∷ [])) → ⊥) ⊎ HasUnserved rs
+untaken-run rs h untaken =
+    ⊎_elim
+    (λ all. inl (λ sound. untaken (takes-run rs h sound all)))
+    (λ some. inr (record { vector = some.0; among = some.1; unserved = some.2 }))
+    (all_or_one (vectors_of rs))
 
 -- where a thread stands after more records
 pub mark-more : (mark : Mark) (rs more : List RedoRecord) → (mark_after mark (map raw_of (rs ++ more))).scn ≡ scn_after (mark_after mark (map raw_of rs)).scn more

@@ -11,9 +11,10 @@ use Rattle.adg_model.specs.declared.delivery.RawDelivery.{RawDelivery}
 use Rattle.adg_model.specs.declared.fault.FeedKind.{FeedKind}
 use Rattle.adg_model.specs.declared.fault.FeedKind.TheVariants as kinds
 use Rattle.adg_model.specs.Feed.{Item, Standing, AreItems, AreDeliveries, frame_fault, IsFeed, IsHeader, IsIn, IsDelivery, FeedFails, DeliveryFails, start, after_delivery, after_deliveries, delivery_of, command_of, redo_total, opening_bytes, deliveries_bytes, delivery_bytes, items_bytes, stop_bytes, most_redo, most_payload, most_deliveries}
-use Rattle.adg_model.specs.Records.{thread_text, HasBadRecord, record_fault}
+use Rattle.adg_model.specs.Records.{thread_text, HasRecords, HasBadRecord, record_fault}
 use Rattle.adg_model.specs.declared.fault.RedoFault.{RedoFault}
 use Rattle.adg_model.specs.Sound.{IsFirstBadRecord}
+use Rattle.adg_model.proofs.LogLaws.{each-append}
 use Rattle.adg_model.proofs.FeedLaws.{pieces_room, redo_bound, few_commands, of_first, own_sessions, first_text, deliveries-more, after-more, feed-more, ends_count, after-threads, after-sessions, redo_within}
 use Rattle.feed_frames.specs.State.{FeedState, fresh}
 use Rattle.feed_frames.specs.declared.phase.Phase.TheVariants.{Open}
@@ -27,11 +28,12 @@ use Rattle.redo_frames.specs.Assembly.{next_number}
 use Rattle.imadg_top.specs.declared.applier.Standby.{Standby}
 use Rattle.imadg_top.specs.declared.refusal.Refusal.{Refusal}
 use Rattle.imadg_top.specs.declared.refusal.Refusal.TheVariants as refusals
-use Rattle.imadg_top.specs.Headline.{IsFeedFront, HasRunFront, FeedRead, SinkFailed, NotBuilt, Stops, RanAll, HasFeedFault, CountsSome, deliveries_of, read_bytes, counted}
+use Rattle.imadg_top.specs.Headline.{IsFeedFront, HasRunFront, FeedRead, SinkFailed, NotBuilt, Stops, RanAll, HasFeedFault, deliveries_of, read_bytes, counted}
+use Rattle.imadg_top.specs.Counting.{CountsSome, HasOther}
 use Rattle.imadg_top.specs.Progress.{IsAt, Transcribed, RunStops, WroteFront, WrotePiece, Writes, feed_ending, ending_of}
-use Rattle.imadg_top.specs.Standby.{HasRun, IsDelivered, DeliveryStops, HasUntaken, AsksOther}
+use Rattle.imadg_top.specs.Standby.{HasRun, IsDelivered, DeliveryStops}
 use Rattle.imadg_top.specs.Thread.{pieces_bytes, IsBadRecord}
-use Rattle.imadg_top.proofs.RunLaws.{sound-run}
+use Rattle.imadg_top.proofs.RunLaws.{sound-run, served-run, untaken-run}
 use Rattle.imadg_top.proofs.StoppedReading.{IsOpeningFront, IsDeliveryFront, IsFrontBefore, opening-read, opening-memory, opening-shown, opening-before, delivery-read, delivery-memory, delivery-shown, delivery-found, delivery-before}
 use Rattle.imadg_top.proofs.StandbyLaws.{has-records}
 use Rattle.imadg_top.proofs.TranscriptMore.{transcribed-more, delivered_counts}
@@ -66,10 +68,6 @@ of-more : (ds : List (List Item)) (items : List Item) → deliveries_of (ds ++ i
 of-more [] items = refl
 of-more (d ∷ ds) items = ap (λ (l : List RawDelivery). delivery_of d ∷ l) (of-more ds items)
 
-all-more : {X : Type 0} (P : X → Type 0) (xs : List X) (x : X) → AllByRecursion P xs → P x → AllByRecursion P (xs ++ x ∷ [])
-all-more P [] x h k = (k, tt)
-all-more P (y ∷ ys) x h k = (h.0, all-more P ys x h.1 k)
-
 pub ran-all : (source from sink held : Option (List ℕ)) (sessions : ℕ) (reader : FeedState) (standby : Standby) (written : ℕ) → (at : IsAt source from sink held sessions reader standby written)
     → RanAll sessions (deliveries_of at.deliveries) at.output
 ran-all source from sink held sessions reader standby written at =
@@ -78,7 +76,7 @@ ran-all source from sink held sessions reader standby written at =
       records = at.records;
       has = has;
       sound = sound-run at.records has.raws.follow has.vectors at.run.takes;
-      takes = at.run.takes;
+      served = served-run at.records at.run.takes;
       counts = at.counts;
       transcript = record { lines = at.transcribed.lines; legal = at.transcribed.legal; print = at.transcribed.print };
       at_end = at.transcribed.at_end;
@@ -205,7 +203,7 @@ ran-one source from to sink held sessions old new standby standby' written d pri
       delivered = omega (arith, delivered, at.delivered, length-append at.deliveries (one.items ∷ []));
       transcribed = subst (λ (l : List RawDelivery). Transcribed sessions l (at.output ++ printed) standby'.frontier) (sym one.deliveries) more;
       counts = subst (λ (l : List RawDelivery). AllByRecursion (λ e. AllByRecursion CountsSome e.commands) l) (sym one.deliveries)
-          (all-more (λ (e : RawDelivery). AllByRecursion CountsSome e.commands) ds d at.counts (delivered_counts standby' sessions d (thread_text 1 (ds ++ d ∷ [])) at.records printed done' one.own));
+          (each-append (λ (e : RawDelivery). AllByRecursion CountsSome e.commands) ds (d ∷ []) at.counts (delivered_counts standby' sessions d (thread_text 1 (ds ++ d ∷ [])) at.records printed done' one.own, tt));
     }
 
 -- one delivery more was run and its lines written
@@ -340,7 +338,7 @@ ran-none sessions = record {
   records = [];
   has = record { rest = []; raws = record { spelled = refl; follow = tt; part = inl (omega arith); good = refl }; vectors = tt };
   sound = sound-run [] tt tt tt;
-  takes = tt;
+  served = tt;
   counts = tt;
   transcript = record { lines = []; legal = tt; print = refl };
   at_end = tt;
@@ -396,9 +394,6 @@ last-delivery : (st : Standing) (ds : List (List Item)) (items : List Item) → 
 last-delivery st [] items h = h.0
 last-delivery st (d ∷ ds) items h = last-delivery (after_delivery st d) ds items h.1
 
-asks-as : (a b : List ℕ) (d e : RawDelivery) → a ≡ b → d ≡ e → AsksOther a d → AsksOther b e
-asks-as a b d e same is h = subst (λ (t : List ℕ). AsksOther t e) same (subst (λ (k : RawDelivery). AsksOther a k) is h)
-
 -- why a delivery that was read was not run
 stops-of : (source : Option (List ℕ)) (sessions : ℕ) (ds : List (List Item)) (items : List Item) (d : RawDelivery) (out text : List ℕ)
     → thread_text 1 (deliveries_of (ds ++ items ∷ [])) ≡ text → delivery_of items ≡ d → IsFeed 1 sessions (ds ++ items ∷ []) → IsFeed 1 sessions ds → RanAll sessions (deliveries_of ds) out
@@ -410,11 +405,15 @@ stops-of source sessions ds items d out text same is feed before ran (refusals.R
 }
 stops-of source sessions ds items d out text same is feed before ran refusals.NotBuilt (inl u) = inr (record {
   one = record { sessions = sessions; deliveries = ds; last = items; feed = feed; read = refl; ran = ran };
-  unbuilt = inl (subst HasUntaken (sym same) u);
+  records = u.records;
+  has = subst (λ (t : List ℕ). HasRecords t u.records) (sym same) u.has;
+  unbuilt = ⊎_elim (λ unsound. inl unsound) (λ unserved. inr (inl unserved)) (untaken-run u.records u.has.raws.follow u.untaken);
 })
 stops-of source sessions ds items d out text same is feed before ran refusals.NotBuilt (inr a) = inr (record {
   one = record { sessions = sessions; deliveries = ds; last = items; feed = feed; read = refl; ran = ran };
-  unbuilt = inr (asks-as text _ d (delivery_of items) (sym same) (sym is) a);
+  records = a.records;
+  has = subst (λ (t : List ℕ). HasRecords t a.records) (sym same) a.has;
+  unbuilt = inr (inr (subst (λ (k : RawDelivery). HasOther k.commands) (sym is) a.other));
 })
 stops-of source sessions ds items d out text same is feed before ran refusals.Write h = absurd h
 stops-of source sessions ds items d out text same is feed before ran refusals.Memory h =
@@ -453,7 +452,7 @@ stop-write source from to sink held held' sessions old new standby standby' writ
       records = at.records ++ ran.more;
       has = has;
       sound = sound-run (at.records ++ ran.more) has.raws.follow has.vectors ran.run.takes;
-      takes = ran.run.takes;
+      served = served-run (at.records ++ ran.more) ran.run.takes;
       counts = ran.counts;
       transcript = record { lines = ran.transcribed.lines; legal = ran.transcribed.legal; print = ran.transcribed.print };
       at_end = ran.transcribed.at_end;

@@ -8,7 +8,8 @@ use Rattle.adg_model.specs.Database.{no_database}
 use Rattle.redo_frames.specs.Assembly.{Assembly}
 use Rattle.redo_frames.specs.Reading.{Stands}
 use Rattle.imadg_top.specs.declared.applier.Standby.{Standby}
-use Rattle.imadg_top.specs.Run.{vectors_of, ran, TakesAll, scn_after}
+use Rattle.imadg_top.specs.Run.{ran, TakesAll, scn_after}
+use Rattle.imadg_top.specs.Served.{vectors_of}
 use Rattle.imadg_top.specs.Standby.{HasRun}
 use Rattle.imadg_top.specs.Store.{Shows}
 use Rattle.imadg_top.specs.Thread.{HasTakenAll}

@@ -18,7 +18,8 @@ use Rattle.imadg_top.specs.declared.store.Object.{Object}
 use Rattle.imadg_top.specs.declared.store.Pending.{Pending}
 use Rattle.imadg_top.specs.declared.store.Transaction.{Transaction}
 use Rattle.imadg_top.specs.declared.store.Transaction.TheVariants.{Running, Ended}
-use Rattle.imadg_top.specs.Store.{has_slot, definition, IsRunning, IsUnknown, IsKept, ShowsTransaction, ShowsObject, Takes, Applies, AddsChange, AddsRows}
+use Rattle.imadg_top.specs.Store.{has_slot, definition, IsRunning, IsUnknown, IsKept, ShowsTransaction, ShowsObject, Applies, AddsChange, AddsRows}
+use Rattle.imadg_top.specs.Served.{Takes}
 use Rattle.imadg_top.proofs.StoreCommit.{commit_object}
 
 set_at_here : {X : Type 0} (k : ℕ) (x : X) (f : ℕ → X) → set_at k x f k ≡ x

@@ -1,6 +1,6 @@
 -- What taking and reading records keeps.
 use Rattle.std.proofs.Common.{◌≡◌, ◌++◌, ◌+◌, ◌<◌, ◌≤◌, ℕ, List, [], ◌∷◌, length, take, drop, map, get_or, Option, Some, None, append_assoc, append-nil, length-append, take-append-drop, ◌∙◌, ap, sym, subst, refl, arith, suc}
-use Rattle.std.specs.List.{flat_map, AllByRecursion}
+use Rattle.std.specs.List.{flat_map}
 use Rattle.std.proofs.lemmas.List.{take_more}
 use Rattle.std.proofs.lemmas.Grind.{flat_map-append}
 use Rattle.adg_base.specs.declared.vector.RedoRecord.{RedoRecord}
@@ -9,6 +9,7 @@ use Rattle.adg_model.specs.declared.fault.FrameKind.{FrameKind}
 use Rattle.adg_model.specs.declared.fault.RedoFault.{RedoFault}
 use Rattle.adg_model.specs.Records.{Raw, Mark, first_mark, mark_of, raw_bytes, raw_of, AreRaws, AreReadable, HasBadRecord}
 use Rattle.adg_model.specs.Spelling.{AreVectors}
+use Rattle.adg_model.proofs.LogLaws.{each-append}
 use Rattle.redo_frames.specs.Assembly.{Assembly, Holds, next_number, raw_of_record}
 use Rattle.redo_frames.specs.Reading.{Stands}
 use Rattle.redo_frames.specs.declared.record.RawRecord.{RawRecord}
@@ -30,10 +31,6 @@ pub pieces-room : (ps : List RedoPiece) (i : ℕ) (p : RedoPiece) → i < length
 pieces-room ps i p h =
     omega (arith, pieces-within (i + 1) ps, ap (λ (t : List ℕ). length t) (pieces-step ps i p h), length-append (pieces_bytes (take i ps)) (get_or ps i p).bytes)
 
-all-append : {X : Type 0} (P : X → Type 0) (xs ys : List X) → AllByRecursion P xs → AllByRecursion P ys → AllByRecursion P (xs ++ ys)
-all-append P [] ys h k = k
-all-append P (x ∷ xs) ys h k = (h.0, all-append P xs ys h.1 k)
-
 pub raws-append : (rs ss : List RedoRecord) → map raw_of (rs ++ ss) ≡ map raw_of rs ++ map raw_of ss
 raws-append [] ss = refl
 raws-append (r ∷ rs) ss = ap (λ (l : List Raw). raw_of r ∷ l) (raws-append rs ss)
@@ -53,7 +50,7 @@ one-taken a text rs more r raw holds same good vectors =
     let all : List RedoRecord = rs ++ more in
     let raws : map raw_of (all ++ r ∷ []) ≡ map raw_of all ++ raw ∷ [] = raws-append all (r ∷ []) ∙ ap (λ (k : Raw). map raw_of all ++ k ∷ []) same in
     subst (λ (l : List RedoRecord). HasTaken a text l) (append_assoc rs more (r ∷ []))
-    (record { holds = subst (Holds a text) (sym raws) holds; readable = all-append _ all (r ∷ []) good (vectors, tt) })
+    (record { holds = subst (Holds a text) (sym raws) holds; readable = each-append _ all (r ∷ []) good (vectors, tt) })
 
 pub next-taken : (old new : Assembly) (raw : Raw) → old.held ≡ raw ∷ new.held → new ≡ record old { taken = old.taken + 1; held = new.held } → next_number new ≡ next_number old
 next-taken old new raw held same =

@@ -1,5 +1,5 @@
 -- The transcript of one delivery more.
-use Rattle.std.proofs.Common.{◌≡◌, ◌++◌, ◌+◌, ◌≤◌, ◌<◌, ℕ, Bool, true, false, List, [], ◌∷◌, length, map, Option, Some, None, append_assoc, append-nil, length-append, add-one, add-zero, ◌∙◌, ap, sym, subst, refl, arith, zero, suc, eq-eqb, codes}
+use Rattle.std.proofs.Common.{◌≡◌, ◌++◌, ◌+◌, ◌≤◌, ◌<◌, ℕ, Bool, true, false, List, [], ◌∷◌, length, map, append_assoc, append-nil, length-append, add-zero, ◌∙◌, ap, sym, subst, refl, arith, zero, suc, eq-eqb, codes}
 use Rattle.std.specs.List.{AllByRecursion, AllZip, flat_map, list_any, range_with_len}
 use Rattle.std.specs.Str.{bytes_eq}
 use Rattle.adg_base.specs.declared.command.CommandText.{CommandText}
@@ -16,10 +16,11 @@ use Rattle.adg_model.specs.Transcript.{Asked, asked_from, all_asked, texts_of, i
 use Rattle.adg_model.proofs.LogLaws.{mark_rises, mark_after-append, raws_after}
 use Rattle.imadg_top.specs.declared.applier.Standby.{Standby}
 use Rattle.imadg_top.specs.Answered.{AnswersAll, IsCounted}
-use Rattle.imadg_top.specs.Counting.{Counts}
-use Rattle.imadg_top.specs.Headline.{CountsSome, CountsAtEnd}
+use Rattle.imadg_top.specs.Counting.{Counts, CountsSome}
+use Rattle.imadg_top.specs.Headline.{CountsAtEnd}
 use Rattle.imadg_top.specs.Progress.{Transcribed, end_after}
-use Rattle.imadg_top.specs.Run.{vectors_of, ran}
+use Rattle.imadg_top.specs.Run.{ran}
+use Rattle.imadg_top.specs.Served.{vectors_of}
 use Rattle.imadg_top.specs.Standby.{IsDelivered}
 use Rattle.imadg_top.proofs.CountTexts.{command_bytes-count}
 use Rattle.imadg_top.proofs.LegalLaws.{legal, plain_all}

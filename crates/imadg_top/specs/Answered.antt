@@ -1,8 +1,7 @@
 -- The lines of the commands of a delivery, each of which counts the rows of an object.
-use Rattle.std.specs.Prelude.{◌≡◌, ℕ, List, ◌++◌, Option, Contains}
+use Rattle.std.specs.Prelude.{◌≡◌, ℕ, List, ◌++◌, Option}
 use Rattle.std.specs.List.{flat_map, AllZip}
 use Rattle.std.specs.Option.{option_map}
-use Rattle.adg_base.specs.declared.command.CommandText.{CommandText}
 use Rattle.adg_base.specs.declared.answer.Line.{Line}
 use Rattle.adg_model.specs.Database.{Database, Table}
 use Rattle.adg_model.specs.Query.{row_count}
@@ -27,9 +26,3 @@ pub record AnswersAll (db : Database) (delivery scn : ℕ) (commands : List Aske
   pub lines : List Line
   pub counted : AllZip (IsCounted db scn) commands lines
   pub printed : new ≡ old ++ flat_map (line_bytes delivery) lines
-
--- some command text counts the rows of no object
-pub record HasOther (commands : List CommandText) : Type 0 where
-  pub other : CommandText
-  pub among : Contains commands other
-  pub counts_none : (obj : ℕ) → Counts other.text obj → ⊥

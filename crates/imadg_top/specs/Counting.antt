@@ -1,6 +1,7 @@
 -- The one command that is answered: SELECT COUNT FROM a table.
-use Rattle.std.specs.Prelude.{ℕ, pos, List, [], ◌∷◌, ◌++◌, Option, Some, None, codes}
+use Rattle.std.specs.Prelude.{ℕ, pos, List, [], ◌∷◌, ◌++◌, Option, Some, None, Contains, codes}
 use Rattle.adg_base.specs.declared.command.Command.{Command}
+use Rattle.adg_base.specs.declared.command.CommandText.{CommandText}
 use Rattle.adg_base.specs.declared.command.Command.TheVariants as command
 use Rattle.adg_base.specs.declared.command.What.TheVariants.{Aggregates}
 use Rattle.adg_base.specs.declared.command.Aggregate.TheVariants.{Count}
@@ -21,7 +22,17 @@ count_text obj = codes "SELECT COUNT FROM t" ++ decimal obj
 abbrev pub Counts : List ℕ → ℕ → Type 0
 Counts text obj = Spells text (count_command obj)
 
--- the reply to it, where the object has so many rows or is not defined; every row comes from the store
+-- a command text counts the rows of some object
+abbrev pub CountsSome : CommandText → Type 0
+CountsSome c = (obj : ℕ) × Counts c.text obj
+
+-- some command text counts the rows of no object
+pub record HasOther (commands : List CommandText) : Type 0 where
+  pub other : CommandText
+  pub among : Contains commands other
+  pub counts_none : (obj : ℕ) → Counts other.text obj → ⊥
+
+-- the reply to a count, where the object has so many rows or is not defined; every row comes from the store
 abbrev pub count_reply : ℕ → Option ℕ → Reply
 count_reply scn None = NoTable scn
 count_reply scn (Some rows) = Rows scn ((cell.Number (pos rows) ∷ []) ∷ []) 0 rows

@@ -3,7 +3,6 @@ use Rattle.std.specs.Prelude.{◌≡◌, ◌≢◌, ℕ, ◌-◌, ◌<◌, ◌^�
 use Rattle.std.specs.List.{AllByRecursion}
 use Rattle.std.specs.Ffi.{without_last}
 use Rattle.std.specs.Io.KnownBytes.{Consumes, Appends}
-use Rattle.adg_base.specs.declared.command.CommandText.{CommandText}
 use Rattle.adg_base.specs.declared.answer.Lines.{Lines}
 use Rattle.adg_base.specs.declared.vector.RedoRecord.{RedoRecord}
 use Rattle.adg_io.specs.Faults.{Rose}
@@ -14,14 +13,12 @@ use Rattle.adg_model.specs.declared.fault.RedoFault.{RedoFault}
 use Rattle.adg_model.specs.Feed.{Item, IsHeader, IsFeed, BeginsFeed, FeedFails, opening_bytes, deliveries_bytes, feed_bytes, delivery_of}
 use Rattle.adg_model.specs.Records.{HasRecords, thread_text}
 use Rattle.adg_model.specs.Log.{merged_log}
-use Rattle.adg_model.specs.Database.{no_database}
 use Rattle.adg_model.specs.Sound.{IsSound, IsFirstBadRecord, IsRedoFault}
 use Rattle.adg_model.specs.Transcript.{IsTranscript}
 use Rattle.imadg_top.specs.Words.{workers_of, usage_line}
-use Rattle.imadg_top.specs.Counting.{Counts, count_reply}
+use Rattle.imadg_top.specs.Counting.{CountsSome, HasOther, count_reply}
 use Rattle.imadg_top.specs.Report.{feed_line, redo_line, not_built_line}
-use Rattle.imadg_top.specs.Run.{vectors_of, TakesAll}
-use Rattle.imadg_top.specs.Standby.{HasUntaken, AsksOther}
+use Rattle.imadg_top.specs.Served.{AreServed, HasUnserved}
 use Rattle.imadg_top.specs.declared.outcome.Outcome.{Outcome}
 
 -- how a run ends
@@ -49,22 +46,18 @@ status_of NotBuilt = 7
 abbrev pub deliveries_of : List (List Item) → List RawDelivery
 deliveries_of deliveries = map delivery_of deliveries
 
--- a command text counts the rows of some object
-abbrev pub CountsSome : CommandText → Type 0
-CountsSome c = (obj : ℕ) × Counts c.text obj
-
 -- each line of a delivery replies to a count at the SCN of the delivery's end; all rows come from the store
 abbrev pub CountsAtEnd : Lines → Type 0
 CountsAtEnd l = AllByRecursion (λ line. (rows : Option ℕ) × (line.reply ≡ count_reply l.end rows)) l.list
 
--- All of some deliveries was run: their records can be read, the merged log is sound and has only vectors
--- that are served, every command is a count, and what was written is a legal transcript of them in which
--- each is answered at the end of its delivery.
+-- All of some deliveries was run: their records can be read, the merged log is sound, all vectors are served,
+-- every command is a count, and what was written is a legal transcript of them in which each is answered at
+-- the end of its delivery.
 pub record RanAll (sessions : ℕ) (deliveries : List RawDelivery) (written : List ℕ) : Type 0 where
   pub records : List RedoRecord
   pub has : HasRecords (thread_text 1 deliveries) records
   pub sound : IsSound (merged_log (records ∷ []))
-  pub takes : TakesAll no_database (vectors_of records)
+  pub served : AreServed records
   pub counts : AllByRecursion (λ d. AllByRecursion CountsSome d.commands) deliveries
   pub transcript : IsTranscript 1 sessions deliveries written
   pub at_end : AllByRecursion CountsAtEnd transcript.lines
@@ -123,11 +116,13 @@ pub record HasThreads (taken written : List ℕ) : Type 0 where
   pub read : taken ≡ opening_bytes threads sessions
   pub none : written ≡ []
 
--- the records of the last delivery can all be read, and it has a vector that is not served, an entry that is
--- not sound or a command that is no count
+-- With the last delivery the records can all be read; and the merged log is not sound, or a vector is not
+-- served, or a command of the delivery is no count.
 pub record IsUnbuilt (taken written : List ℕ) : Type 0 where
   pub one : HasOneMore taken written
-  pub unbuilt : HasUntaken (thread_text 1 (all_of one)) ⊎ AsksOther (thread_text 1 (all_of one)) (delivery_of one.last)
+  pub records : List RedoRecord
+  pub has : HasRecords (thread_text 1 (all_of one)) records
+  pub unbuilt : (IsSound (merged_log (records ∷ [])) → ⊥) ⊎ HasUnserved records ⊎ HasOther (delivery_of one.last).commands
 
 -- nothing is wrong with these bytes but that they end, and the deliveries that are whole in them were run
 pub record HasRunFront (bytes written : List ℕ) : Type 0 where

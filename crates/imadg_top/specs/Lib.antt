@@ -4,7 +4,9 @@ pub mod Headline
 pub mod Progress
 pub mod Report
 pub mod Run
+pub mod Served
 pub mod Standby
+pub mod Status
 pub mod Store
 pub mod Thread
 pub mod Words

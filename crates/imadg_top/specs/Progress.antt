@@ -18,7 +18,8 @@ use Rattle.redo_frames.specs.Assembly.{next_number}
 use Rattle.imadg_top.specs.declared.applier.Standby.{Standby}
 use Rattle.imadg_top.specs.declared.refusal.Refusal.{Refusal}
 use Rattle.imadg_top.specs.declared.refusal.Refusal.TheVariants as refusals
-use Rattle.imadg_top.specs.Headline.{Ending, HasLine, CountsAtEnd, line_of, status_of, FeedRead, FeedRefused, RedoRefused, SourceFailed, SinkFailed, NoMemory, NotBuilt, Stops, CountsSome, deliveries_of, read_bytes, counted}
+use Rattle.imadg_top.specs.Headline.{Ending, HasLine, CountsAtEnd, line_of, status_of, FeedRead, FeedRefused, RedoRefused, SourceFailed, SinkFailed, NoMemory, NotBuilt, Stops, deliveries_of, read_bytes, counted}
+use Rattle.imadg_top.specs.Counting.{CountsSome}
 use Rattle.imadg_top.specs.Standby.{HasRun}
 
 -- the end of the last of some lines, or else one before them

@@ -1,14 +1,9 @@
 -- Vectors that are applied one after another.
 use Rattle.std.specs.Prelude.{ℕ, List, [], ◌∷◌}
-use Rattle.std.specs.List.{flat_map}
 use Rattle.adg_base.specs.declared.vector.Vector.{Vector}
 use Rattle.adg_base.specs.declared.vector.RedoRecord.{RedoRecord}
 use Rattle.adg_model.specs.Database.{Database, after}
-use Rattle.imadg_top.specs.Store.{Takes}
-
--- the vectors of some records in their order
-abbrev pub vectors_of : List RedoRecord → List Vector
-vectors_of records = flat_map (λ r. r.vectors) records
+use Rattle.imadg_top.specs.Served.{Takes}
 
 -- what vectors make of a database
 abbrev pub ran : Database → List Vector → Database

@@ -11,10 +11,12 @@ use Rattle.imadg_top.specs.declared.refusal.Refusal.TheVariants.{Feed, Redo, Not
 use Rattle.adg_model.specs.declared.delivery.RawDelivery.{RawDelivery}
 use Rattle.adg_model.specs.Reply.{end_line_bytes}
 use Rattle.adg_model.specs.Transcript.{all_asked}
-use Rattle.imadg_top.specs.Answered.{AnswersAll, HasOther}
+use Rattle.imadg_top.specs.Answered.{AnswersAll}
+use Rattle.imadg_top.specs.Counting.{HasOther}
 use Rattle.imadg_top.specs.Store.{Shows}
 use Rattle.imadg_top.specs.Thread.{HasTakenAll, IsBadRecord}
-use Rattle.imadg_top.specs.Run.{vectors_of, ran, TakesAll}
+use Rattle.imadg_top.specs.Run.{ran, TakesAll}
+use Rattle.imadg_top.specs.Served.{vectors_of}
 
 -- the redo of a text was received and its vectors were applied: these are its records
 pub record HasRun (s : Standby) (text : List ℕ) (records : List RedoRecord) : Type 0 where
@@ -62,11 +64,8 @@ pub record AsksOther (text : List ℕ) (delivery : RawDelivery) : Type 0 where
   pub other : HasOther delivery.commands
 
 abbrev pub DeliveryStops : RawDelivery → List ℕ → Refusal → Type 0
-DeliveryStops delivery text (Feed fault) = ⊥
-DeliveryStops delivery text (Redo fault) = IsBadRecord text fault
 DeliveryStops delivery text NotBuilt = HasUntaken text ⊎ AsksOther text delivery
-DeliveryStops delivery text Write = ⊥
-DeliveryStops delivery text Memory = Unit {0}
+DeliveryStops delivery text refusal = RedoStops text refusal
 
 abbrev pub Delivers : Standby → ℕ → RawDelivery → List ℕ → List RedoRecord → Result (String Global) Refusal → Type 0
 Delivers s sessions delivery text records (Ok printed) = IsDelivered s sessions delivery text records (string_bytes printed)

@@ -6,33 +6,14 @@ use Rattle.std.specs.HashMap.{HashMap}
 use Rattle.std.specs.HashSet as bag
 use Rattle.adg_base.specs.Address.{Place}
 use Rattle.adg_base.specs.declared.vector.Vector.{Vector}
-use Rattle.adg_base.specs.declared.vector.Vector.TheVariants.{Begin, Put, Delete, Undo, Commit, Abort, Create, DropObject, AddColumn, NoInMemory, EndThread}
 use Rattle.adg_model.specs.Database.{Database, Table, after, place, same_place}
-use Rattle.adg_model.specs.Query.{row_count}
-use Rattle.adg_model.specs.Sound.{refusal, has_address}
+use Rattle.adg_model.specs.Sound.{has_address}
+use Rattle.imadg_top.specs.Served.{Takes}
 use Rattle.imadg_top.specs.declared.store.Store.{Store}
 use Rattle.imadg_top.specs.declared.store.Object.{Object}
 use Rattle.imadg_top.specs.declared.store.Pending.{Pending}
 use Rattle.imadg_top.specs.declared.store.Transaction.{Transaction}
 use Rattle.imadg_top.specs.declared.store.Transaction.TheVariants.{Running, Ended}
-
--- the vectors that the store takes: a begin, a put, a commit, a create and the end of a thread
-abbrev pub is_served : Vector → Bool
-is_served (Begin txn) = true
-is_served (Put txn o b s row) = true
-is_served (Delete txn o b s) = false
-is_served (Undo txn o b s) = false
-is_served (Commit txn flag) = true
-is_served (Abort txn) = false
-is_served (Create o e f columns) = true
-is_served (DropObject o) = false
-is_served (AddColumn o k) = false
-is_served (NoInMemory o) = false
-is_served EndThread = true
-
--- a vector that the store takes, and that passes the checks of the log
-abbrev pub Takes : Database → Vector → Type 0
-Takes db vector = (is_served vector ≡ true) × (refusal db vector ≡ None)
 
 -- the object has a slot at this address
 abbrev pub has_slot : Option Table → Place → Bool
@@ -56,14 +37,14 @@ pub record IsRunning (kept : Pending) (db : Database) (t : ℕ) : Type 0 where
   pub rows : AllByRecursion (λ c. is_some c.row ≡ true) (db.pending t)
   pub slots : AllByRecursion (λ c. has_slot (db.tables c.at.obj) c.at ≡ true) (db.pending t)
 
-pub record HasEnded (db : Database) (t : ℕ) : Type 0 where
+pub record IsFinished (db : Database) (t : ℕ) : Type 0 where
   pub begun : db.begun t ≡ true
   pub ended : db.ended t ≡ true
 
 abbrev pub ShowsTransaction : Option Transaction → Database → ℕ → Type 0
 ShowsTransaction None db t = IsNew db t
 ShowsTransaction (Some (Running kept)) db t = IsRunning kept db t
-ShowsTransaction (Some Ended) db t = HasEnded db t
+ShowsTransaction (Some Ended) db t = IsFinished db t
 
 -- an object that was never created has no row
 pub record IsUnknown (db : Database) (o : ℕ) : Type 0 where
@@ -100,14 +81,6 @@ Applies old vector new = (db : Database) → Shows old db → Takes db vector ×
 
 abbrev pub Refuses : Store → Vector → Type 0
 Refuses old vector = (db : Database) → Shows old db → Takes db vector → ⊥
-
--- how many rows an object has, where it is there
-abbrev pub CountsRows : Option Table → Database → ℕ → Option ℕ → Type 0
-CountsRows None db o count = count ≡ None
-CountsRows (Some t) db o count = count ≡ Some (row_count db.rows o t)
-
-abbrev pub Counts : Database → ℕ → Option ℕ → Type 0
-Counts db o count = CountsRows (db.tables o) db o count
 
 -- a change of a running transaction
 abbrev pub AddsChange : Transaction → Place → Bool → Transaction → Type 0

@@ -1,6 +1,6 @@
 -- What the reader of the one thread has received.
 use Rattle.std.specs.Prelude.{◌≡◌, ℕ, ◌+◌, List, [], length, map, None}
-use Rattle.std.specs.List.{flat_map, AllByRecursion}
+use Rattle.std.specs.List.{flat_map}
 use Rattle.adg_base.specs.declared.vector.RedoRecord.{RedoRecord}
 use Rattle.adg_model.specs.declared.delivery.RedoPiece.{RedoPiece}
 use Rattle.adg_model.specs.declared.fault.RedoFault.{RedoFault}
@@ -13,10 +13,6 @@ use Rattle.redo_frames.specs.Assembly.{Assembly, Holds}
 -- the bytes of some pieces, one after another
 abbrev pub pieces_bytes : List RedoPiece → List ℕ
 pieces_bytes pieces = flat_map (λ p. p.bytes) pieces
-
--- the pieces are all of the first thread
-abbrev pub AreOfFirst : List RedoPiece → Type 0
-AreOfFirst pieces = AllByRecursion (λ p. p.thread ≡ 1) pieces
 
 -- of a text these records were taken, and they can be read
 pub record HasTaken (a : Assembly) (text : List ℕ) (records : List RedoRecord) : Type 0 where

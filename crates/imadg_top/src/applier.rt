@@ -4,7 +4,8 @@ ghost use Rattle.adg_model.specs.Database.{Database};
 ghost use Rattle.redo_frames.specs.Assembly.{next_number};
 ghost use Rattle.imadg_top.specs.Store.{Shows};
 ghost use Rattle.imadg_top.specs.Thread.{pieces_bytes};
-ghost use Rattle.imadg_top.specs.Run.{vectors_of, ran, TakesAll, scn_after};
+ghost use Rattle.imadg_top.specs.Run.{ran, TakesAll, scn_after};
+ghost use Rattle.imadg_top.specs.Served.{vectors_of};
 ghost use Rattle.imadg_top.specs.Standby.{HasRun, RunsRedo, Delivers};
 
 use crate::lines::push_end;

@@ -16,5 +16,5 @@ mod thread;
 mod top;
 mod words;
 
-pub use outcome::Outcome;
+pub use outcome::{Outcome, Status};
 pub use top::{standby, stepped};

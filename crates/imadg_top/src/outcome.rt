@@ -1,11 +1,50 @@
-/// How a run ended: its status, and how many bytes the source gave and the sink took. The status is
-/// 0 where the feed was read through its stop frame, 1 where the words are no accepted line, 2
-/// where the feed is refused, 3 where redo is refused, 4 where the source failed, 5 where the sink
-/// failed, 6 for want of memory and 7 where the feed asks for what is not built yet. `written`
-/// stands still at its type's last value.
+ghost use Rattle.std.specs.Prelude.{◌≡◌};
+ghost use Rattle.imadg_top.specs.Status.{code_of};
+
+/// How a run ended: the code of its status, and how many bytes the source gave and the sink took.
+/// `written` stands still at its type's last value.
 #[derive(Clone, Copy, Debug, PartialEq, Eq)]
 pub struct Outcome {
     pub status: u8,
     pub taken: u64,
     pub written: u64,
+}
+
+/// The status of a run.
+#[derive(Clone, Copy, Debug, PartialEq, Eq)]
+pub enum Status {
+    /// The feed was read through its stop frame.
+    FeedRead,
+    /// The words are no accepted line.
+    WordsRefused,
+    /// The bytes are no feed.
+    FeedRefused,
+    /// The redo of a delivery is no redo.
+    RedoRefused,
+    /// A read failed.
+    SourceFailed,
+    /// A write failed.
+    SinkFailed,
+    /// Want of memory.
+    NoMemory,
+    /// The feed asks for what is not built yet.
+    NotBuilt,
+}
+
+impl Status {
+    /// The number that the program ends with.
+    pub fn code(self) -> u8
+        ensures { result ≡ code_of self }
+    {
+        match self {
+            Status::FeedRead => 0,
+            Status::WordsRefused => 1,
+            Status::FeedRefused => 2,
+            Status::RedoRefused => 3,
+            Status::SourceFailed => 4,
+            Status::SinkFailed => 5,
+            Status::NoMemory => 6,
+            Status::NotBuilt => 7,
+        }
+    }
 }

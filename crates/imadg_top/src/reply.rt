@@ -1,9 +1,9 @@
 ghost use Rattle.std.specs.Prelude.{◌≡◌, ◌<◌, ◌≤◌, ◌^◌, ◌-◌, ◌∷◌, [], ℕ, length, OnOk, string_bytes};
 ghost use Rattle.adg_model.specs.Database.{Database};
 ghost use Rattle.adg_model.specs.Transcript.{asked_from, texts_of, all_asked};
-ghost use Rattle.imadg_top.specs.Counting.{Counts};
+ghost use Rattle.imadg_top.specs.Counting.{Counts, HasOther};
 ghost use Rattle.imadg_top.specs.Store.{Shows};
-ghost use Rattle.imadg_top.specs.Answered.{AnswersAll, HasOther};
+ghost use Rattle.imadg_top.specs.Answered.{AnswersAll};
 
 use crate::lines::{Place, push_count};
 use crate::query::counted;

@@ -51,12 +51,7 @@ pub fn run_feed<R: Source, K: Sink>(
             Ok(Step::End) => return Ok(()),
             Err(fault) => return Err(Refusal::Feed(fault)),
         };
-        let lines = match standby.deliver(alloc, sessions, &delivery) {
-            Ok(lines) => lines,
-            Err(refusal) => return Err(refusal),
-        };
-        if let Err(refusal) = put(sink, written, lines.as_bytes()) {
-            return Err(refusal);
-        }
+        let lines = standby.deliver(alloc, sessions, &delivery)?;
+        put(sink, written, lines.as_bytes())?;
     }
 }

@@ -3,7 +3,8 @@ ghost use Rattle.std.specs.List.{list_all, zip};
 ghost use Rattle.adg_base.specs.declared.vector.Vector.TheVariants.{Begin, Put, Commit, Create};
 ghost use Rattle.adg_model.specs.Database.{Database, no_database};
 ghost use Rattle.adg_model.specs.Sound.{fits_kind, fits_row};
-ghost use Rattle.imadg_top.specs.Store.{Shows, Applies, Refuses, Counts, AddsChange, AddsRows};
+ghost use Rattle.imadg_top.specs.Store.{Shows, Applies, Refuses, AddsChange, AddsRows};
+ghost use Rattle.imadg_top.specs.Answered.{count_of};
 
 use adg_base::address::{Addr, AddrList};
 use adg_base::list::List;
@@ -175,7 +176,7 @@ impl Store {
 
     /// How many committed rows an object has; None where there is no such object.
     pub fn count(&self, obj: Obj) -> Option<u64>
-        ensures { (db : Database) → Shows self.now db → Counts db obj result }
+        ensures { (db : Database) → Shows self.now db → result ≡ count_of db obj }
     {
         let object = self.objects.get(&obj.get())?;
         Some(object.rows.len() as u64)
@@ -263,7 +264,7 @@ impl Store {
     }
 }
 
-/// Rows at some addresses. Where an address has no object, nothing is added.
+/// Adds a row at each of some addresses. Where an address has no object, nothing is added.
 fn add_rows(objects: &mut HashMap<u16, Object>, places: &[Addr]) -> Result<(), Memory>
     ensures { OnOk result (AddsRows objects.old places.now objects.new) }
 {

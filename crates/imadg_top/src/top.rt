@@ -1,8 +1,9 @@
 ghost use Rattle.std.specs.Prelude.{◌≡◌, map, string_bytes};
 ghost use Rattle.imadg_top.specs.Headline.{Headline, IsComplete};
 ghost use Rattle.imadg_top.specs.Progress.{Tells, IsEnded, ending_of, feed_ending};
+ghost use Rattle.imadg_top.specs.Status.{code_of};
 
-use crate::outcome::Outcome;
+use crate::outcome::{Outcome, Status};
 use crate::refusal::Refusal;
 use crate::report::{feed_refused, not_built, redo_refused, usage};
 use crate::run::{put, run_feed};
@@ -15,66 +16,50 @@ use std::alloc::Global;
 use std::sync::Wait;
 use std::thread::Threads;
 
-const FEED_READ: u8 = 0;
-
-const WORDS_REFUSED: u8 = 1;
-
-const FEED_REFUSED: u8 = 2;
-
-const REDO_REFUSED: u8 = 3;
-
-const SOURCE_FAILED: u8 = 4;
-
-const SINK_FAILED: u8 = 5;
-
-const NO_MEMORY: u8 = 6;
-
-const NOT_BUILT: u8 = 7;
-
 /// Writes a line, and gives the status that goes with it.
-fn tell<K: Sink>(sink: &mut K, written: &mut u64, line: &str, status: u8) -> u8
-    ensures { Tells (K.held sink.old) (K.held sink.new) written.old written.new line.now (K.faults sink.old) (K.faults sink.new) status result }
+fn tell<K: Sink>(sink: &mut K, written: &mut u64, line: &str, status: Status) -> Status
+    ensures { Tells (K.held sink.old) (K.held sink.new) written.old written.new line.now (K.faults sink.old) (K.faults sink.new) (code_of status) (code_of result) }
 {
     match put(sink, written, line.as_bytes()) {
         Ok(()) => status,
-        Err(_) => SINK_FAILED,
+        Err(_) => Status::SinkFailed,
     }
 }
 
 /// Ends a run whose feed is refused or could not be read.
-fn refuse_feed<K: Sink>(alloc: Global, sink: &mut K, written: &mut u64, fault: FeedFault) -> u8
-    ensures { IsEnded (feed_ending fault.kind fault.byte) (K.held sink.old) (K.held sink.new) written.old written.new (K.faults sink.old) (K.faults sink.new) result }
+fn refuse_feed<K: Sink>(alloc: Global, sink: &mut K, written: &mut u64, fault: FeedFault) -> Status
+    ensures { IsEnded (feed_ending fault.kind fault.byte) (K.held sink.old) (K.held sink.new) written.old written.new (K.faults sink.old) (K.faults sink.new) (code_of result) }
 {
     match fault.kind {
-        FeedKind::Read => SOURCE_FAILED,
-        FeedKind::Memory => NO_MEMORY,
+        FeedKind::Read => Status::SourceFailed,
+        FeedKind::Memory => Status::NoMemory,
         kind => match feed_refused(alloc, kind, fault.byte) {
-            Ok(line) => tell(sink, written, line.as_str(), FEED_REFUSED),
-            Err(_) => NO_MEMORY,
+            Ok(line) => tell(sink, written, line.as_str(), Status::FeedRefused),
+            Err(_) => Status::NoMemory,
         },
     }
 }
 
 /// Ends a run whose redo is refused.
-fn refuse_redo<K: Sink>(alloc: Global, sink: &mut K, written: &mut u64, fault: RedoFault) -> u8
-    ensures { IsEnded (ending_of (Err (Refusal.Redo fault))) (K.held sink.old) (K.held sink.new) written.old written.new (K.faults sink.old) (K.faults sink.new) result }
+fn refuse_redo<K: Sink>(alloc: Global, sink: &mut K, written: &mut u64, fault: RedoFault) -> Status
+    ensures { IsEnded (ending_of (Err (Refusal.Redo fault))) (K.held sink.old) (K.held sink.new) written.old written.new (K.faults sink.old) (K.faults sink.new) (code_of result) }
 {
     match redo_refused(alloc, fault) {
-        Ok(line) => tell(sink, written, line.as_str(), REDO_REFUSED),
-        Err(_) => NO_MEMORY,
+        Ok(line) => tell(sink, written, line.as_str(), Status::RedoRefused),
+        Err(_) => Status::NoMemory,
     }
 }
 
 /// Ends a run that stopped before its feed did.
-fn refuse<K: Sink>(alloc: Global, sink: &mut K, written: &mut u64, refusal: Refusal) -> u8
-    ensures { IsEnded (ending_of (Err refusal)) (K.held sink.old) (K.held sink.new) written.old written.new (K.faults sink.old) (K.faults sink.new) result }
+fn refuse<K: Sink>(alloc: Global, sink: &mut K, written: &mut u64, refusal: Refusal) -> Status
+    ensures { IsEnded (ending_of (Err refusal)) (K.held sink.old) (K.held sink.new) written.old written.new (K.faults sink.old) (K.faults sink.new) (code_of result) }
 {
     match refusal {
         Refusal::Feed(fault) => refuse_feed(alloc, sink, written, fault),
         Refusal::Redo(fault) => refuse_redo(alloc, sink, written, fault),
-        Refusal::NotBuilt => tell(sink, written, not_built(), NOT_BUILT),
-        Refusal::Write => SINK_FAILED,
-        Refusal::Memory => NO_MEMORY,
+        Refusal::NotBuilt => tell(sink, written, not_built(), Status::NotBuilt),
+        Refusal::Write => Status::SinkFailed,
+        Refusal::Memory => Status::NoMemory,
     }
 }
 
@@ -91,9 +76,9 @@ pub fn stepped<R: Source, K: Sink>(
 {
     let mut written: u64 = 0;
     let Some(_workers) = workers(words) else {
-        let status = tell(sink, &mut written, usage(), WORDS_REFUSED);
+        let status = tell(sink, &mut written, usage(), Status::WordsRefused);
         return Outcome {
-            status,
+            status: status.code(),
             taken: 0,
             written,
         };
@@ -101,14 +86,14 @@ pub fn stepped<R: Source, K: Sink>(
     let mut reader = FeedReader::new(alloc);
     match run_feed(alloc, &mut reader, source, sink, &mut written) {
         Ok(()) => Outcome {
-            status: FEED_READ,
+            status: Status::FeedRead.code(),
             taken: reader.taken(),
             written,
         },
         Err(refusal) => {
             let status = refuse(alloc, sink, &mut written, refusal);
             Outcome {
-                status,
+                status: status.code(),
                 taken: reader.taken(),
                 written,
             }

@@ -1,7 +1,8 @@
 ghost use Rattle.std.specs.Prelude.{◌≡◌, map, string_bytes};
 ghost use Rattle.imadg_top.specs.Words.{number_of_workers, separate, joined, workers_of};
 
-/// Read by hand, since exactly the accepted lines are to be accepted.
+/// The number that one digit from 1 to 8 names; None for other digits. Read by hand, since exactly
+/// the accepted lines are to be accepted.
 fn number(digits: &[u8]) -> Option<u8>
     ensures { result ≡ number_of_workers digits.now }
 {
@@ -11,6 +12,7 @@ fn number(digits: &[u8]) -> Option<u8>
     }
 }
 
+/// The number of workers of a mode and an option whose value is a word of its own.
 fn two_words(mode: &[u8], name: &[u8], value: &[u8]) -> Option<u8>
     ensures { result ≡ separate mode.now name.now value.now }
 {
@@ -21,6 +23,7 @@ fn two_words(mode: &[u8], name: &[u8], value: &[u8]) -> Option<u8>
     }
 }
 
+/// The number of workers of a mode and an option with its value in one word.
 fn one_word(mode: &[u8], option: &[u8]) -> Option<u8>
     ensures { result ≡ joined mode.now option.now }
 {

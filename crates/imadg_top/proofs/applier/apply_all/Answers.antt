@@ -3,7 +3,8 @@ use Rattle.std.proofs.lemmas.Result.{err_from_is_err_and}
 use Rattle.std.specs.Vec.Iter.{into_iter_items}
 use Rattle.adg_base.specs.declared.vector.Vector.{Vector}
 use Rattle.adg_base.specs.declared.vector.RedoRecord.{RedoRecord}
-use Rattle.imadg_top.specs.Run.{ran, TakesAll, vectors_of}
+use Rattle.imadg_top.specs.Run.{ran, TakesAll}
+use Rattle.imadg_top.specs.Served.{vectors_of}
 use Rattle.imadg_top.proofs.RunLaws.{ran-append, TakesAll-append, TakesAll-after, TakesAll-front, vectors_of-append}
 use Rattle.imadg_top.proofs.applier.apply_all.Goals as goal
 

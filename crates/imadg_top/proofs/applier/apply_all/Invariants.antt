@@ -2,7 +2,8 @@ use Rattle.std.proofs.Common.{◌≡◌, ◌++◌}
 use Rattle.std.specs.Vec.Iter.{into_iter_items}
 use Rattle.adg_model.specs.Database.{Database}
 use Rattle.imadg_top.specs.Store.{Shows}
-use Rattle.imadg_top.specs.Run.{ran, TakesAll, vectors_of}
+use Rattle.imadg_top.specs.Run.{ran, TakesAll}
+use Rattle.imadg_top.specs.Served.{vectors_of}
 use Rattle.imadg_top.proofs.applier.apply_all.Given as goal
 
 abbrev pub invariant-loop-record : goal.invariant-loop-record

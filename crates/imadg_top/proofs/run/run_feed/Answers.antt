@@ -1,4 +1,5 @@
 use Rattle.std.proofs.Common.{◌∙◌, sym, subst, List, ℕ, Err, refl}
+use Rattle.std.proofs.lemmas.Result.{err_from_is_err_and}
 use Rattle.imadg_top.specs.Progress.{Writes}
 use Rattle.imadg_top.proofs.RunMore.{at-start, at-more, may-deliver, stop-end, stop-fault, stop-header, stop-threads, stop-delivery, stop-put, header-err, header-ok, fresh-reads, open-reads, step-of}
 use Rattle.imadg_top.proofs.run.run_feed.Goals as goal
@@ -50,30 +51,32 @@ deliver-requires-clause-count g c =
     let r = step-of c.deliveries.reader c.next_delivery.new.self _ _ _ at.phase (rw c.in-Ok-Delivery.field-0-is at c.in-Ok-Delivery.ensures.step) in
     (may-deliver _ _ _ _ _ _ c.deliveries.reader c.next_delivery.new.self c.deliveries.standby c.deliveries.written _ at r).count
 
-pub returns-in-Err-deliver-clause-stops : goal.returns-in-Err-deliver-clause-stops
-returns-in-Err-deliver-clause-stops g c =
+pub returns-in_err-lines-clause-stops : goal.returns-in_err-lines-clause-stops
+returns-in_err-lines-clause-stops g c =
+    let p = err_from_is_err_and c.from_residual.result c.from_residual.ensures.1 in
     let at = c.deliveries.invariant.at in
     let r = step-of c.deliveries.reader c.next_delivery.new.self _ _ _ at.phase (rw c.in-Ok-Delivery.field-0-is at c.in-Ok-Delivery.ensures.step) in
-    stop-delivery _ _ _ _ _ _ c.deliveries.reader c.next_delivery.new.self c.deliveries.standby c.deliveries.written _ c.in-Err-deliver.refusal at r
-    (c.in-Err-deliver.ensures.run _ _ at.run)
+    rw p.1 (rw p.2 (stop-delivery _ _ _ _ _ _ c.deliveries.reader c.next_delivery.new.self c.deliveries.standby c.deliveries.written _ c.in_err-lines.field-0.0 at r
+    (c.in_err-lines.ensures.run _ _ at.run)))
 
-pub returns-in-Err-put-clause-stops : goal.returns-in-Err-put-clause-stops
-returns-in-Err-put-clause-stops g c =
+pub returns-in_err-put-clause-stops : goal.returns-in_err-put-clause-stops
+returns-in_err-put-clause-stops g c =
+    let p = err_from_is_err_and c.from_residual-in_err-put.result c.from_residual-in_err-put.ensures.1 in
     let at = c.deliveries.invariant.at in
     let r = step-of c.deliveries.reader c.next_delivery.new.self _ _ _ at.phase (rw c.in-Ok-Delivery.field-0-is at c.in-Ok-Delivery.ensures.step) in
-    stop-put _ _ _ _ _ _ _ c.deliveries.reader c.next_delivery.new.self c.deliveries.standby c.deliver.new.self c.deliveries.written c.put.new.written _ _ _ _ c.in-Err-put.refusal at r
-    (c.in-Ok.ensures.run _ _ at.run) c.in-Ok.ensures.delivered c.deliver.ensures.number
-    (subst (λ (t : List ℕ). Writes (g.K.Sink.held c.deliveries.sink) (g.K.Sink.held c.put.new.sink) c.deliveries.written c.put.new.written t (g.K.Sink.faults c.deliveries.sink) (g.K.Sink.faults c.put.new.sink) (Err c.in-Err-put.refusal)) c.as_bytes.ensures.value c.in-Err-put.ensures)
+    rw p.1 (rw p.2 (stop-put _ _ _ _ _ _ _ c.deliveries.reader c.next_delivery.new.self c.deliveries.standby c.deliver.new.self c.deliveries.written c.put.new.written _ _ _ _ c.in_err-put.field-0.0 at r
+    (c.in_ok-lines.ensures.run _ _ at.run) c.in_ok-lines.ensures.delivered c.deliver.ensures.number
+    (subst (λ (t : List ℕ). Writes (g.K.Sink.held c.deliveries.sink) (g.K.Sink.held c.put.new.sink) c.deliveries.written c.put.new.written t (g.K.Sink.faults c.deliveries.sink) (g.K.Sink.faults c.put.new.sink) (Err c.in_err-put.field-0.0)) c.as_bytes.ensures.value c.in_err-put.ensures)))
 
 pub deliveries-preserved : goal.deliveries-preserved
 deliveries-preserved g c =
     let inv = c.deliveries.invariant in
     let at = inv.at in
     let r = step-of c.deliveries.reader c.next_delivery.new.self _ _ _ at.phase (rw c.in-Ok-Delivery.field-0-is at c.in-Ok-Delivery.ensures.step) in
-    let wrote = rw c.as_bytes.ensures.value at c.in_default-put.ensures in
+    let wrote = rw c.as_bytes.ensures.value at c.in_ok-put.ensures in
     record {
       at = at-more _ _ _ _ _ _ _ c.deliveries.reader c.next_delivery.new.self c.deliveries.standby c.deliver.new.self c.deliveries.written c.put.new.written _ _ _ _ at r
-          (c.in-Ok.ensures.run _ _ at.run) c.in-Ok.ensures.delivered c.deliver.ensures.number wrote;
+          (c.in_ok-lines.ensures.run _ _ at.run) c.in_ok-lines.ensures.delivered c.deliver.ensures.number wrote;
       reads = c.in-Ok-Delivery.ensures.cause (open-reads c.deliveries.reader at.phase) ∙ inv.reads;
       writes = wrote.no_fault ∙ inv.writes;
     }

@@ -1,6 +1,7 @@
 use Rattle.std.proofs.Common.{ap, ◌∙◌, ℕ}
 use Rattle.adg_model.specs.Database.{no_database}
-use Rattle.imadg_top.specs.Run.{ran, vectors_of, scn_after}
+use Rattle.imadg_top.specs.Run.{ran, scn_after}
+use Rattle.imadg_top.specs.Served.{vectors_of}
 use Rattle.imadg_top.proofs.StandbyLaws.{has-records, run-more, untaken-more}
 use Rattle.imadg_top.proofs.applier.Standby.run_redo.Goals as goal
 
