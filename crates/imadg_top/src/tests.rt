@@ -52,7 +52,7 @@ fn source_of(alloc: Global, feed: &[u8], outside: Outside) -> Result<MemSource, 
 
 fn sink_of(alloc: Global, outside: Outside) -> Result<MemSink, Fail> {
     let failing = Vec::from_slice(alloc, &[outside.failing_write])?;
-    Ok(MemSink::new(alloc, 4_096, outside.takes, failing)?)
+    Ok(MemSink::new(alloc, 16_777_216, outside.takes, failing)?)
 }
 
 /// Runs a feed, and compares its status, what was taken and what was written.
@@ -219,6 +219,7 @@ fn yields_to_the_outside(rt: HostRuntime) -> Result<(), Fail> {
         (100_000, 12, 4_096, 0, 4, 103, "d1 end scn=11\n"),
         (100_000, 0, 7, 2, 5, 103, "d1 end "),
         (100_000, 0, 4_096, 2, 5, 134, "d1 end scn=11\n"),
+        (100_000, 0, 4_096, 3, 0, 139, ANSWER),
     ] {
         let outside = Outside {
             gives,
@@ -286,19 +287,28 @@ fn accepts_exactly_its_words(rt: HostRuntime) -> Result<(), Fail> {
             (0, 139, ANSWER),
         )?;
     }
-    let refused: [&[&str]; 14] = [
+    let refused: [&[&str]; 23] = [
         &[],
+        &["--help"],
+        &["audit"],
+        &["soak", "--seed", "1", "--txns", "0", "--workers", "1"],
         &["step"],
         &["step", "--workers"],
         &["step", "--workers", ""],
         &["step", "--workers", "0"],
         &["step", "--workers", "9"],
         &["step", "--workers", "08"],
+        &["step", "--workers", "01"],
         &["step", "--workers", "1 "],
         &["step", "--workers=08"],
         &["step", "--workers="],
         &["run", "--workers", "1"],
         &["step", "--seed", "1"],
+        &["step", "--workers", "1", "--seed", "1"],
+        &["step", "--workers", "1", "--satellite", "1"],
+        &["step", "--workers", "1", "--purge", "1"],
+        &["step", "--workers", "1", "more"],
+        &["step", "--workers", "1", "--workers", "1"],
         &["step", "--workers=1", "--workers=1"],
         &["step", "--workers", "1", "--workers=1"],
     ];
@@ -381,14 +391,50 @@ fn takes_redo_cut_anywhere(rt: HostRuntime) -> Result<(), Fail> {
     push_frame(&mut feed, b'S', schedule.as_slice())?;
     push_frame(&mut feed, b'E', &[])?;
     push_frame(&mut feed, b'X', &[])?;
+    let whole = (0, feed.len() as u64, "d1 end scn=0\n");
+    for (failing_read, wanted) in [(0, whole), (9, (4, 65_556, ""))] {
+        let outside = Outside {
+            failing_read,
+            ..CALM
+        };
+        assert_runs(
+            &rt,
+            rt.alloc(),
+            &ONE_WORKER,
+            feed.as_slice(),
+            outside,
+            wanted,
+        )?;
+    }
+    Ok(())
+}
+
+#[test]
+fn answers_session_by_session(rt: HostRuntime) -> Result<(), Fail> {
+    const ANSWERS: &str =
+        "d1 s1 c1 scn=11 rows=1 col=0 row=1\n= 1\nd1 s2 c1 scn=11 refused NoTable\n\
+d1 s2 c2 scn=11 rows=1 col=0 row=1\n= 1\nd1 end scn=11\n";
+    let mut feed = damaged(rt.alloc(), 98, &[(14, 2)])?;
+    for command in [
+        "\x02SELECT COUNT FROM t2",
+        "\x01SELECT COUNT FROM t1",
+        "\x02SELECT COUNT FROM t1",
+    ] {
+        push_frame(&mut feed, b'Q', command.as_bytes())?;
+    }
+    push_frame(&mut feed, b'E', &[])?;
+    push_frame(&mut feed, b'X', &[])?;
     let taken = feed.len() as u64;
-    assert_runs(
-        &rt,
-        rt.alloc(),
-        &ONE_WORKER,
-        feed.as_slice(),
-        CALM,
-        (0, taken, "d1 end scn=0\n"),
-    )?;
+    for takes in [1, 4_096] {
+        let outside = Outside { takes, ..CALM };
+        assert_runs(
+            &rt,
+            rt.alloc(),
+            &ONE_WORKER,
+            feed.as_slice(),
+            outside,
+            (0, taken, ANSWERS),
+        )?;
+    }
     Ok(())
 }
