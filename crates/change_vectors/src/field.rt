@@ -52,6 +52,7 @@ pub fn u64_at(bytes: &[u8]) -> Result<(u64, &[u8]), Unread>
     Ok((number, rest))
 }
 
+/// The flag at the front and the bytes after it; `Bad` where no byte is there that is 0 or 1.
 #[tactic(auto, unfolding(crate::specs::Reading::flag_at))]
 pub fn flag_of(bytes: &[u8]) -> Result<(bool, &[u8]), Unread>
     ensures { Gives (λ x. (x.0, x.1.now)) result (flag_at bytes.now) }
@@ -64,6 +65,8 @@ pub fn flag_of(bytes: &[u8]) -> Result<(bool, &[u8]), Unread>
     }
 }
 
+/// The kind of a column at the front and the bytes after it; `Bad` where no byte is there that is 1
+/// or 2.
 #[tactic(auto, unfolding(crate::specs::Reading::kind_at))]
 pub fn kind_of(bytes: &[u8]) -> Result<(ColKind, &[u8]), Unread>
     ensures { Gives (λ x. (x.0, x.1.now)) result (kind_at bytes.now) }
@@ -76,6 +79,8 @@ pub fn kind_of(bytes: &[u8]) -> Result<(ColKind, &[u8]), Unread>
     }
 }
 
+/// The number of columns at the front, 1 to 16, and the bytes after it; `Bad` where none such is
+/// there.
 #[tactic(auto, unfolding(crate::specs::Reading::width_at))]
 pub fn width_of(bytes: &[u8]) -> Result<(u8, &[u8]), Unread>
     ensures { Gives (λ x. (x.0, x.1.now)) result (width_at bytes.now) }
@@ -88,6 +93,8 @@ pub fn width_of(bytes: &[u8]) -> Result<(u8, &[u8]), Unread>
     }
 }
 
+/// The number of extents at the front, 1 to 256, and the bytes after it; `Bad` where none such is
+/// there.
 #[tactic(auto, unfolding(crate::specs::Reading::extents_at))]
 pub fn extents_of(bytes: &[u8]) -> Result<(u16, &[u8]), Unread>
     ensures { Gives (λ x. (x.0, x.1.now)) result (extents_at bytes.now) }
@@ -100,6 +107,8 @@ pub fn extents_of(bytes: &[u8]) -> Result<(u16, &[u8]), Unread>
     }
 }
 
+/// The transaction and the address at the front and the bytes after them; `Bad` where there are fewer
+/// bytes, or a transaction or an object is 0.
 #[tactic(auto, unfolding(crate::specs::Reading::change_at))]
 pub fn change_of(bytes: &[u8]) -> Result<(Change, &[u8]), Unread>
     ensures { Gives (λ x. (x.0, x.1.now)) result (change_at bytes.now) }
