@@ -1,3 +1,4 @@
 pub mod Address
+pub mod Area
 pub mod Shard
 pub mod Text

@@ -8,8 +8,8 @@ use std::alloc::Global;
 use std::marker::Model;
 
 /// Where a row lies: its object, a block of the object and one of the 64 slots of the block. It is
-/// printed as `tN.block.slot`. Addresses are ordered by object, then block, then slot.
-#[derive(Clone, Copy, Debug, PartialEq, Eq, PartialOrd, Ord, Hash)]
+/// printed as `tN.block.slot`.
+#[derive(Clone, Copy, Debug, PartialEq, Eq, Hash)]
 pub struct Addr {
     obj: Obj,
     block: u16,

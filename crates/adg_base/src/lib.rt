@@ -9,8 +9,10 @@ pub mod definition;
 pub mod list;
 pub mod log;
 pub mod memory;
+pub mod node;
 pub mod number;
 pub mod placed;
+pub mod row;
 pub mod shard;
 pub mod steps;
 #[cfg(test)]

@@ -1,7 +1,7 @@
 use crate::address::Addr;
 use crate::list::{Duplicate, List};
 use crate::memory::Memory;
-use crate::value::Row;
+use crate::row::Row;
 use std::alloc::Global;
 
 /// A row beside its address.

@@ -7,10 +7,11 @@ use crate::list::{Bytes, Duplicate, List};
 use crate::log::{EntryList, LogEntry};
 use crate::number::{Extent, Obj, Pos, Scn, Txn};
 use crate::placed::{PlacedRow, PlacedRows};
+use crate::row::Row;
 use crate::shard::{SHARDS, block_shard, object_shard, shard_of, txn_shard, unit_shard, worker_of};
 use crate::steps::Steps;
 use crate::text::{Text, TextRefused};
-use crate::value::{ColKind, Row, Value};
+use crate::value::{ColKind, Value};
 use crate::vector::{RedoRecord, Vector, VectorList};
 use std::alloc::Global;
 use std::fmt::Debug;
@@ -38,7 +39,7 @@ fn text(alloc: Global) -> Result<Text, Fail> {
 fn row(alloc: Global) -> Result<Row, Fail> {
     let text = text(alloc)?;
     let values = vec![in alloc; Value::Null, Value::Int(-3), Value::Text(text)]?;
-    Ok(List::from_vec(values))
+    Ok(Row::from_vec(alloc, values)?)
 }
 
 // One vector of each kind.

@@ -22,12 +22,6 @@ pub enum Value {
     Text(Text),
 }
 
-/// A row: one value for each of its columns.
-pub type Row = List<Value>;
-
-/// A list of rows.
-pub type RowList = List<Row>;
-
 impl Duplicate for ColKind {
     fn copy(&self, _alloc: Global) -> Result<ColKind, Memory> {
         Ok(*self)

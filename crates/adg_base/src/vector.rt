@@ -3,7 +3,8 @@ ghost use Rattle.std.specs.Prelude.{◌≡◌, IfOk};
 use crate::list::{Duplicate, List};
 use crate::memory::Memory;
 use crate::number::{Obj, Scn, Txn};
-use crate::value::{ColKind, KindList, Row};
+use crate::row::Row;
+use crate::value::{ColKind, KindList};
 use std::alloc::Global;
 
 /// A change vector: one change of a block, a transaction or an object.

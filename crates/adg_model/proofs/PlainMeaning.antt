@@ -1,5 +1,5 @@
 -- Lemmas on the meaning of a SELECT as the plain program computes it.
-use Rattle.std.proofs.Common.{◌≡◌, ℕ, zero, suc, ◌<◌, take, get_or, ◌+◌, Bool, true, false, not, nat_le, ◌&&◌, List, [], ◌∷◌, ◌++◌, map, length, replicate, Option, Some, None, is_some, pos, refl, sym, ap, ap₂, ◌∙◌, subst, arith, append_assoc, append-nil}
+use Rattle.std.proofs.Common.{◌≡◌, ℕ, zero, suc, ◌<◌, take, get_or, ◌+◌, Bool, true, false, not, nat_le, ◌&&◌, List, [], ◌∷◌, ◌++◌, map, length, replicate, Option, Some, None, option_to_list, is_some, pos, refl, sym, ap, ap₂, ◌∙◌, subst, arith, append_assoc, append-nil}
 use Rattle.std.specs.List.{list_all, flat_map, filter_map, range_with_len, cons_option}
 use Rattle.std.proofs.lemmas.List.{map-append, length-map, take_more}
 use Rattle.std.proofs.lemmas.List.Elements.{filter_map-append}
@@ -16,7 +16,7 @@ use Rattle.adg_base.specs.declared.command.Aggregate.TheVariants.{Count, Sum, Mi
 use Rattle.adg_base.specs.declared.command.What.{What}
 use Rattle.adg_base.specs.declared.command.What.TheVariants.{Aggregates}
 use Rattle.adg_model.specs.Database.{Rows, Table, place}
-use Rattle.adg_model.specs.Query.{padded, object_rows, table_rows, filtered, columns_in, column_of, some_list, has_columns, aggregate_cells, result_lines, answer_of, row_count}
+use Rattle.adg_model.specs.Query.{padded, object_rows, table_rows, filtered, columns_in, column_of, has_columns, aggregate_cells, result_lines, answer_of, row_count}
 use Rattle.adg_model.specs.Plain.{is_count, are_counts, only_counts}
 use Rattle.adg_model.specs.declared.plain.PlainReply.TheVariants as reply
 
@@ -63,28 +63,28 @@ block_more f w g n =
     ∙ ap (λ k. map (padded w) (filter_map f (flat_map g (range_with_len 0 n))) ++ map (padded w) (filter_map f (g k))) at
 
 -- the columns that a SELECT names, part by part
-pub all_in_columns : (p : ℕ → Bool) (aggregates : List Aggregate) → list_all p (filter_map column_of aggregates) ≡ list_all (λ a. list_all p (some_list (column_of a))) aggregates
+pub all_in_columns : (p : ℕ → Bool) (aggregates : List Aggregate) → list_all p (filter_map column_of aggregates) ≡ list_all (λ a. list_all p (option_to_list (column_of a))) aggregates
 all_in_columns p [] = refl
 all_in_columns p (a ∷ as') = by_column (column_of a) (all_in_columns p as')
   where
-    by_column : (c : Option ℕ) → list_all p (filter_map column_of as') ≡ list_all (λ x. list_all p (some_list (column_of x))) as' → list_all p (cons_option c (filter_map column_of as')) ≡ (list_all p (some_list c) && list_all (λ x. list_all p (some_list (column_of x))) as')
+    by_column : (c : Option ℕ) → list_all p (filter_map column_of as') ≡ list_all (λ x. list_all p (option_to_list (column_of x))) as' → list_all p (cons_option c (filter_map column_of as')) ≡ (list_all p (option_to_list c) && list_all (λ x. list_all p (option_to_list (column_of x))) as')
     by_column None ih = ih
     by_column (Some c) ih = cases (p c)
       where
-        cases : (b : Bool) → (b && list_all p (filter_map column_of as')) ≡ ((b && true) && list_all (λ x. list_all p (some_list (column_of x))) as')
+        cases : (b : Bool) → (b && list_all p (filter_map column_of as')) ≡ ((b && true) && list_all (λ x. list_all p (option_to_list (column_of x))) as')
         cases true = ih
         cases false = refl
 
 pub all_columns : (select : Select) (table : Table) (asked tested grouped : Bool)
     → asked ≡ list_all (λ c. nat_le c (length table.kinds)) (columns_in select.what)
     → tested ≡ list_all (λ c. nat_le c.column (length table.kinds)) select.conditions
-    → grouped ≡ list_all (λ c. nat_le c (length table.kinds)) (some_list select.group)
+    → grouped ≡ list_all (λ c. nat_le c (length table.kinds)) (option_to_list select.group)
     → (asked && tested && grouped) ≡ has_columns select table
 all_columns select table asked tested grouped a t g =
     let p : ℕ → Bool = λ c. nat_le c (length table.kinds) in
     let columns = map (λ c. c.column) select.conditions in
     ap₂ (λ (x y : Bool). x && y) (ap₂ (λ (x y : Bool). x && y) a (t ∙ sym (list_all-map p (λ c. c.column) select.conditions))) g
-    ∙ sym (list_all-append p (columns_in select.what ++ columns) (some_list select.group) ∙ ap (λ b. b && list_all p (some_list select.group)) (list_all-append p (columns_in select.what) columns))
+    ∙ sym (list_all-append p (columns_in select.what ++ columns) (option_to_list select.group) ∙ ap (λ b. b && list_all p (option_to_list select.group)) (list_all-append p (columns_in select.what) columns))
 
 -- the answer where only counts are asked for
 pub counts_only : (aggregates : List Aggregate) (rows : List (List Value)) → list_all is_count aggregates ≡ true → aggregate_cells aggregates rows ≡ map (λ _. cell.Number (pos (length rows))) aggregates

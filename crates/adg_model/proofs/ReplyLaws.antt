@@ -89,7 +89,7 @@ replies log f text (Aborted scn) h = inl (record { scn = scn; at = refl; asked =
 replies log f text (BadQuery scn byte) h = inr (record { scn = scn; byte = byte; is = refl; bad = h })
 replies log f text (NoTable scn) h = inl (no_table log text scn h.obj h.undefined h.names)
 replies log f text (NotInMemory scn) h =
-    inl (record { scn = scn; at = refl; asked = command.Populate h.obj; spells = h.spells; same = sym (ap (reply_of_populate scn) h.defined ∙ ap (reply_of_flag scn) h.in_memory) })
+    inl (record { scn = scn; at = refl; asked = command.Populate h.obj; spells = h.spells; same = sym (ap (reply_of_populate scn) h.defined ∙ ap (reply_of_flag scn) h.plain) })
 replies log f text (NoColumn scn) h =
     let e = of_columns log text scn h.select h.table false (has_types h.select h.table) h.query h.columns refl in
     inl (record { scn = scn; at = refl; asked = command.Select h.select; spells = h.query.spells; same = sym e })

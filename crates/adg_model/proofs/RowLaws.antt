@@ -6,8 +6,8 @@ use Rattle.adg_base.specs.declared.log.LogEntry.{LogEntry}
 use Rattle.adg_model.specs.Log.{upto}
 use Rattle.adg_base.specs.declared.vector.Vector.{Vector}
 use Rattle.adg_base.specs.declared.vector.Vector.TheVariants.{Begin, Put, Delete, Undo, Commit, Abort, Create, DropObject, AddColumn, NoInMemory, EndThread}
-use Rattle.adg_model.specs.Database.{Rows, Change, place, played, struck, set_at, Database, no_database, after, walked, database}
-use Rattle.adg_model.specs.Laws.{RowsStopAtScn, is_of, commits, has_committed, without, UncommittedChangeNothing}
+use Rattle.adg_model.specs.Database.{Rows, Change, place, played, struck, set_at, Database, no_database, after, walked, database, commits}
+use Rattle.adg_model.specs.Laws.{RowsStopAtScn, is_of, has_committed, without, UncommittedChangeNothing}
 use Rattle.adg_model.proofs.LogLaws.{upto-append, upto_none}
 
 pub walked-append : (db : Database) (xs ys : List LogEntry) → walked db (xs ++ ys) ≡ walked (walked db xs) ys

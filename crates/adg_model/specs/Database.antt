@@ -1,5 +1,5 @@
 -- What the entries of a log make, one after another: transactions, definitions and rows.
-use Rattle.std.specs.Prelude.{ℕ, Bool, true, false, ◌==◌, ◌&&◌, ◌||◌, if◌then◌else◌, List, [], ◌∷◌, ◌++◌, Option, Some, None}
+use Rattle.std.specs.Prelude.{ℕ, Bool, true, false, ◌==◌, ◌&&◌, ◌||◌, if◌then◌else◌, List, [], ◌∷◌, ◌++◌, map, filter, slice_get, Option, Some, None}
 use Rattle.std.specs.List.{list_any, filter_map}
 use Rattle.adg_base.specs.Address.{Place}
 use Rattle.adg_base.specs.declared.value.ColKind.{ColKind}
@@ -139,14 +139,19 @@ abbrev pub touched_by : ℕ → Vector → Option Place
 touched_by t (Put txn o b s row) = if txn == t then Some (place o b s) else None
 touched_by t (Delete txn o b s) = if txn == t then Some (place o b s) else None
 touched_by t (Undo txn o b s) = if txn == t then Some (place o b s) else None
-touched_by t (Begin txn) = None
-touched_by t (Commit txn flag) = None
-touched_by t (Abort txn) = None
-touched_by t (Create o e f columns) = None
-touched_by t (DropObject o) = None
-touched_by t (AddColumn o k) = None
-touched_by t (NoInMemory o) = None
-touched_by t EndThread = None
+touched_by t other = None
 
 abbrev pub touched : ℕ → List LogEntry → List Place
 touched t log = filter_map (λ e. touched_by t e.vector) log
+
+-- whether a vector commits a transaction, and the SCNs at which a log commits it
+abbrev pub commits : ℕ → Vector → Bool
+commits t (Commit txn flag) = txn == t
+commits t other = false
+
+abbrev pub commit_scns : ℕ → List LogEntry → List ℕ
+commit_scns t log = map (λ e. e.scn) (filter (λ e. commits t e.vector) log)
+
+-- the SCN at which a transaction is committed, where it is: a sound log commits it at most once
+abbrev pub commit_scn : ℕ → List LogEntry → Option ℕ
+commit_scn t log = slice_get (commit_scns t log) 0

@@ -14,7 +14,7 @@ use Rattle.adg_base.specs.declared.answer.Reply.TheVariants.{Rows, Populated}
 use Rattle.adg_model.specs.declared.delivery.RawDelivery.{RawDelivery}
 use Rattle.adg_model.specs.Records.{first_mark, raw_of, AreRaws, IsRecord, record_bytes}
 use Rattle.adg_model.specs.Log.{frontier, entries_from, comes_before, upto, merged_log, ReceivedFrom}
-use Rattle.adg_model.specs.Database.{rows_at, table_at}
+use Rattle.adg_model.specs.Database.{commits, commit_scns, rows_at, table_at}
 use Rattle.adg_model.specs.Command.{IsCommand, command_bytes}
 use Rattle.adg_model.specs.Reply.{IsReply}
 use Rattle.adg_model.specs.Transcript.{scn_of, replies_to, LegalFrom}
@@ -69,7 +69,7 @@ RowsStopAtScn =
     (log more : List LogEntry) (scn : ℕ) → AllByRecursion (λ e. scn < e.scn) more
     → (rows_at (log ++ more) scn ≡ rows_at log scn) × (table_at (log ++ more) scn ≡ table_at log scn)
 
--- whether a vector names a transaction, and whether it commits it
+-- whether a vector names a transaction
 abbrev pub is_of : ℕ → Vector → Bool
 is_of t (Begin txn) = txn == t
 is_of t (Put txn o b s row) = txn == t
@@ -83,19 +83,7 @@ is_of t (AddColumn o k) = false
 is_of t (NoInMemory o) = false
 is_of t EndThread = false
 
-abbrev pub commits : ℕ → Vector → Bool
-commits t (Begin txn) = false
-commits t (Put txn o b s row) = false
-commits t (Delete txn o b s) = false
-commits t (Undo txn o b s) = false
-commits t (Commit txn flag) = txn == t
-commits t (Abort txn) = false
-commits t (Create o e f columns) = false
-commits t (DropObject o) = false
-commits t (AddColumn o k) = false
-commits t (NoInMemory o) = false
-commits t EndThread = false
-
+-- whether a transaction commits in a log
 abbrev pub has_committed : ℕ → List LogEntry → Bool
 has_committed t log = list_any (λ e. commits t e.vector) log
 

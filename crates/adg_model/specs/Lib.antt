@@ -3,6 +3,8 @@ pub mod Records
 pub mod Feed
 pub mod Log
 pub mod Database
+pub mod Defined
+pub mod Mined
 pub mod Sound
 pub mod Query
 pub mod Command

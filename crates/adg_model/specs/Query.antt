@@ -1,5 +1,5 @@
 -- The meaning of a SELECT over the rows of an object: conditions, aggregates and groups.
-use Rattle.std.specs.Prelude.{ℕ, ◌-◌, ◌*◌, ℤ, pos, ◌+ℤ◌, Bool, true, false, not, nat_le, ◌&&◌, if◌then◌else◌, List, [], ◌∷◌, ◌++◌, length, map, filter, replicate, slice_get, Option, Some, None}
+use Rattle.std.specs.Prelude.{ℕ, ◌-◌, ◌*◌, ℤ, pos, ◌+ℤ◌, Bool, true, false, not, nat_le, ◌&&◌, if◌then◌else◌, List, [], ◌∷◌, ◌++◌, length, map, filter, replicate, slice_get, Option, Some, None, unwrap_or, option_to_list}
 use Rattle.std.specs.List.{list_all, flat_map, filter_map, range_with_len}
 use Rattle.std.specs.Ordering.{nat_cmp, int_cmp, is_eq, is_lt, is_gt}
 use Rattle.std.specs.Cmp.Lexicographic.{slice_cmp}
@@ -42,12 +42,8 @@ abbrev pub table_rows : Rows → ℕ → Table → List (List Value)
 table_rows rows obj table = map (padded (length table.kinds)) (object_rows rows obj table.extents)
 
 -- the value in a column, which counts from 1
-abbrev pub or_null : Option Value → Value
-or_null None = Null
-or_null (Some v) = v
-
 abbrev pub value_in : ℕ → List Value → Value
-value_in column row = or_null (slice_get row (column - 1))
+value_in column row = unwrap_or (slice_get row (column - 1)) Null
 
 -- values of one kind in their order, Null before all; texts compare by bytes
 abbrev pub value_cmp : Value → Value → Ordering
@@ -148,9 +144,13 @@ result_lines All group rows = map (map cell_of) rows
 result_lines (Aggregates aggregates) None rows = aggregate_cells aggregates rows ∷ []
 result_lines (Aggregates aggregates) (Some column) rows = group_lines aggregates column rows
 
+-- the lines of a SELECT over a list of rows: those that meet its conditions, or what it asks of them
+abbrev pub select_lines : Select → List (List Value) → List (List Cell)
+select_lines select rows = result_lines select.what select.group (filtered select.conditions rows)
+
 -- the answer of a SELECT over the rows of its object
 abbrev pub answer_of : Rows → Select → Table → List (List Cell)
-answer_of rows select table = result_lines select.what select.group (filtered select.conditions (table_rows rows select.obj table))
+answer_of rows select table = select_lines select (table_rows rows select.obj table)
 
 -- how many rows the object has, before the filter
 abbrev pub row_count : Rows → ℕ → Table → ℕ
@@ -167,12 +167,8 @@ abbrev pub columns_in : What → List ℕ
 columns_in All = []
 columns_in (Aggregates aggregates) = filter_map column_of aggregates
 
-abbrev pub some_list : Option ℕ → List ℕ
-some_list None = []
-some_list (Some n) = n ∷ []
-
 abbrev pub columns_of : Select → List ℕ
-columns_of select = columns_in select.what ++ map (λ c. c.column) select.conditions ++ some_list select.group
+columns_of select = columns_in select.what ++ map (λ c. c.column) select.conditions ++ option_to_list select.group
 
 abbrev pub has_columns : Select → Table → Bool
 has_columns select table = list_all (λ c. nat_le c (length table.kinds)) (columns_of select)

@@ -51,26 +51,34 @@ pub record IsNoTable (log : List LogEntry) (text : List ℕ) (scn : ℕ) : Type 
   pub names : Names text obj
   pub undefined : table_at log scn obj ≡ None
 
--- the text is a POPULATE of an object that is defined at the SCN, in-memory or not
-pub record IsPopulate (log : List LogEntry) (text : List ℕ) (scn : ℕ) (flag : Bool) (units : ℕ) : Type 0 where
+-- the text is a POPULATE of an object that is in-memory at the SCN, and no more units than its extents
+pub record IsPopulated (log : List LogEntry) (text : List ℕ) (scn : ℕ) (units : ℕ) : Type 0 where
   pub obj : ℕ
   pub table : Table
   pub spells : Spells text (command.Populate obj)
   pub defined : table_at log scn obj ≡ Some table
-  pub in_memory : table.flag ≡ flag
+  pub in_memory : table.flag ≡ true
   pub most : units ≤ table.extents
+
+-- the text is a POPULATE of an object that is defined at the SCN and not in-memory
+pub record IsNotInMemory (log : List LogEntry) (text : List ℕ) (scn : ℕ) : Type 0 where
+  pub obj : ℕ
+  pub table : Table
+  pub spells : Spells text (command.Populate obj)
+  pub defined : table_at log scn obj ≡ Some table
+  pub plain : table.flag ≡ false
 
 -- The reply to a command text over a log with a frontier, at the SCN that the reply names. A reply of
 -- Down has no SCN and no meaning; where it may stand, the transcript says.
 abbrev pub IsReply : List LogEntry → ℕ → List ℕ → Reply → Type 0
 IsReply log frontier text (Rows scn answer col row) = IsRows log text scn answer col row
-IsReply log frontier text (Populated scn units) = IsPopulate log text scn true units
+IsReply log frontier text (Populated scn units) = IsPopulated log text scn units
 IsReply log frontier text (Synced scn) = Spells text command.Sync × (scn ≡ frontier)
 IsReply log frontier text (Shown scn) = Spells text command.ShowScn
 IsReply log frontier text (Aborted scn) = Spells text command.Abort
 IsReply log frontier text (BadQuery scn byte) = IsBadQuery text byte
 IsReply log frontier text (NoTable scn) = IsNoTable log text scn
-IsReply log frontier text (NotInMemory scn) = IsPopulate log text scn false 0
+IsReply log frontier text (NotInMemory scn) = IsNotInMemory log text scn
 IsReply log frontier text (NoColumn scn) = IsNoColumn log text scn
 IsReply log frontier text (WrongType scn) = IsWrongType log text scn
 IsReply log frontier text Down = ⊥

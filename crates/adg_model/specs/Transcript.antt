@@ -59,30 +59,12 @@ abbrev pub replies_to : ℕ → List Line → List Reply
 replies_to session lines = filter_map (reply_in session) lines
 
 abbrev pub is_down : Reply → Bool
-is_down (Rows scn answer col row) = false
-is_down (Populated scn units) = false
-is_down (Synced scn) = false
-is_down (Shown scn) = false
-is_down (Aborted scn) = false
-is_down (BadQuery scn byte) = false
-is_down (NoTable scn) = false
-is_down (NotInMemory scn) = false
-is_down (NoColumn scn) = false
-is_down (WrongType scn) = false
 is_down Down = true
+is_down other = false
 
 abbrev pub is_aborted : Reply → Bool
-is_aborted (Rows scn answer col row) = false
-is_aborted (Populated scn units) = false
-is_aborted (Synced scn) = false
-is_aborted (Shown scn) = false
 is_aborted (Aborted scn) = true
-is_aborted (BadQuery scn byte) = false
-is_aborted (NoTable scn) = false
-is_aborted (NotInMemory scn) = false
-is_aborted (NoColumn scn) = false
-is_aborted (WrongType scn) = false
-is_aborted Down = false
+is_aborted other = false
 
 -- a reply is Down, or is the reply of its text
 abbrev pub Answers : List LogEntry → ℕ → Asked → Line → Type 0
@@ -101,16 +83,7 @@ AllAre f qs = AllByRecursion (λ q. q ≡ f) qs
 abbrev pub SyncHolds : ℕ → ℕ → List Reply → Type 0
 SyncHolds f end [] = Unit {0}
 SyncHolds f end (Synced scn ∷ later) = AllAre f (filter_map scn_of later) × (end ≡ f) × SyncHolds f end later
-SyncHolds f end (Rows scn answer col row ∷ later) = SyncHolds f end later
-SyncHolds f end (Populated scn units ∷ later) = SyncHolds f end later
-SyncHolds f end (Shown scn ∷ later) = SyncHolds f end later
-SyncHolds f end (Aborted scn ∷ later) = SyncHolds f end later
-SyncHolds f end (BadQuery scn byte ∷ later) = SyncHolds f end later
-SyncHolds f end (NoTable scn ∷ later) = SyncHolds f end later
-SyncHolds f end (NotInMemory scn ∷ later) = SyncHolds f end later
-SyncHolds f end (NoColumn scn ∷ later) = SyncHolds f end later
-SyncHolds f end (WrongType scn ∷ later) = SyncHolds f end later
-SyncHolds f end (Down ∷ later) = SyncHolds f end later
+SyncHolds f end (other ∷ later) = SyncHolds f end later
 
 abbrev pub AllDown : List Reply → Type 0
 AllDown replies = AllByRecursion (λ r. is_down r ≡ true) replies

@@ -5,6 +5,7 @@
 pub mod delivery;
 pub mod fault;
 pub mod laws;
+pub mod mined;
 pub mod plain;
 #[cfg(test)]
 mod tests;

@@ -3,6 +3,7 @@ use crate::refused::{VectorsRefused, WriteRefused};
 use crate::write::write_record;
 use adg_base::list::List;
 use adg_base::number::{Obj, Scn, Txn};
+use adg_base::row::Row;
 use adg_base::text::Text;
 use adg_base::value::Value;
 use adg_base::vector::{RedoRecord, Vector, VectorList};
@@ -69,16 +70,16 @@ fn puts(rt: &HostRuntime, count: u8) -> Result<VectorList, Fail> {
     let alloc = rt.alloc();
     let mut vectors = List::new(alloc);
     for _ in 0..count {
-        let mut row = List::new(alloc);
+        let mut values = Vec::new(alloc);
         for _ in 0..16 {
-            row.push(Value::Text(Text::new(alloc, &[b'x'; 64])?))?;
+            values.push(Value::Text(Text::new(alloc, &[b'x'; 64])?))?;
         }
         vectors.push(Vector::Put {
             txn: Txn::new(1).ok_or("a transaction")?,
             obj: Obj::new(1).ok_or("an object")?,
             block: 0,
             slot: 0,
-            row,
+            row: Row::from_vec(alloc, values)?,
         })?;
     }
     Ok(vectors)

@@ -8,6 +8,7 @@ use crate::unread::Unread;
 use crate::value::{columns_of, row_of};
 use adg_base::list::List;
 use adg_base::number::{Obj, Txn};
+use adg_base::row::Row;
 use adg_base::vector::Vector;
 use std::alloc::Global;
 
@@ -29,12 +30,15 @@ fn put_of(alloc: Global, bytes: &[u8]) -> Result<(Vector, &[u8]), Unread>
     match change_of(bytes) {
         Ok((change, rest)) => {
             let (values, rest) = row_of(alloc, rest)?;
+            let Ok(row) = Row::from_vec(alloc, values) else {
+                return Err(Unread::Memory);
+            };
             let put = Vector::Put {
                 txn: change.txn,
                 obj: change.obj,
                 block: change.block,
                 slot: change.slot,
-                row: List::from_vec(values),
+                row,
             };
             Ok((put, rest))
         }

@@ -1,11 +1,11 @@
 //! The meaning of a SELECT over the changes that are committed, by the definitions one by one.
 
-ghost use Rattle.std.specs.Prelude.{◌≡◌, ◌++◌, ◌&&◌, [], ◌∷◌, pos, map, length, nat_le, not, IfOk, OnOk};
+ghost use Rattle.std.specs.Prelude.{◌≡◌, ◌++◌, ◌&&◌, [], ◌∷◌, pos, map, length, nat_le, not, option_to_list, IfOk, OnOk};
 ghost use Rattle.std.specs.List.{filter_map, list_all};
 ghost use Rattle.adg_base.specs.declared.answer.Cell.TheVariants as cell;
 ghost use Rattle.adg_model.specs.Database.{place, played};
 ghost use Rattle.adg_model.specs.Query as query;
-ghost use Rattle.adg_model.specs.Query.{allows, block_places, columns_in, column_of, filtered, fits_column, padded, some_list, table_rows, value_cmp};
+ghost use Rattle.adg_model.specs.Query.{allows, block_places, columns_in, column_of, filtered, fits_column, padded, table_rows, value_cmp};
 ghost use Rattle.adg_model.specs.Plain.{no_rows};
 
 use super::walk::{PlainChange, PlainTable, row_at};
@@ -14,7 +14,8 @@ use adg_base::command::{Aggregate, Condition, Op, Select, What};
 use adg_base::list::{Duplicate, List};
 use adg_base::memory::Memory;
 use adg_base::number::Obj;
-use adg_base::value::{ColKind, Row, RowList, Value};
+use adg_base::row::{Row, RowList};
+use adg_base::value::{ColKind, Value};
 use std::alloc::Global;
 use std::cmp::Ordering;
 
@@ -75,12 +76,23 @@ fn add_row(
 fn widened(alloc: Global, row: &Row, width: usize) -> Result<Row, Memory>
     ensures { IfOk result (λ wide. wide ≡ padded width row.now) }
 {
-    let mut wide = row.copy(alloc)?;
+    let mut wide = values_of(alloc, row)?;
     let missing = width.saturating_sub(row.len());
     for _ in 0..missing {
         wide.push(Value::Null)?;
     }
-    Ok(wide)
+    Row::from_vec(alloc, wide.into_vec())
+}
+
+/// The values of a row, copied.
+fn values_of(alloc: Global, row: &Row) -> Result<List<Value>, Memory>
+    ensures { IfOk result (λ values. values ≡ row.now) }
+{
+    let mut values = List::new(alloc);
+    for value in row.as_slice() {
+        values.push(value.copy(alloc)?)?;
+    }
+    Ok(values)
 }
 
 /// How many rows meet all conditions.
@@ -169,7 +181,7 @@ fn has_asked(what: &What, width: usize) -> bool
 }
 
 fn have_columns(aggregates: &[Aggregate], width: usize) -> bool
-    ensures { result ≡ list_all (λ a. list_all (λ c. nat_le c width) (some_list (column_of a))) aggregates.now }
+    ensures { result ≡ list_all (λ a. list_all (λ c. nat_le c width) (option_to_list (column_of a))) aggregates.now }
 {
     aggregates
         .iter()
@@ -177,7 +189,7 @@ fn have_columns(aggregates: &[Aggregate], width: usize) -> bool
 }
 
 fn has_column(aggregate: Aggregate, width: usize) -> bool
-    ensures { result ≡ list_all (λ c. nat_le c width) (some_list (column_of aggregate)) }
+    ensures { result ≡ list_all (λ c. nat_le c width) (option_to_list (column_of aggregate)) }
 {
     match aggregate {
         Aggregate::Count => true,
@@ -196,7 +208,7 @@ fn has_tested(conditions: &[Condition], width: usize) -> bool
 }
 
 fn has_group(group: Option<u8>, width: usize) -> bool
-    ensures { result ≡ list_all (λ c. nat_le c width) (some_list group) }
+    ensures { result ≡ list_all (λ c. nat_le c width) (option_to_list group) }
 {
     match group {
         Some(column) => usize::from(column) <= width,

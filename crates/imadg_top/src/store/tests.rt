@@ -2,8 +2,9 @@ use super::{Store, StoreRefused};
 use adg_base::list::List;
 use adg_base::memory::Memory;
 use adg_base::number::{Obj, Txn};
+use adg_base::row::Row;
 use adg_base::text::Text;
-use adg_base::value::{ColKind, Row, Value};
+use adg_base::value::{ColKind, Value};
 use adg_base::vector::Vector;
 use std::alloc::Global;
 
@@ -28,19 +29,19 @@ enum Step {
 }
 
 fn row_of(alloc: Global, cells: Cells) -> Result<Row, Memory> {
-    let mut row = List::new(alloc);
+    let mut values = Vec::new(alloc);
     match cells {
-        Cells::One => row.push(Value::Int(7))?,
+        Cells::One => values.push(Value::Int(7))?,
         Cells::Word => match Text::new(alloc, b"seven".as_slice()) {
-            Ok(text) => row.push(Value::Text(text))?,
+            Ok(text) => values.push(Value::Text(text))?,
             Err(_) => return Err(Memory),
         },
         Cells::Two => {
-            row.push(Value::Int(7))?;
-            row.push(Value::Null)?;
+            values.push(Value::Int(7))?;
+            values.push(Value::Null)?;
         }
     }
-    Ok(row)
+    Row::from_vec(alloc, values)
 }
 
 fn vector_of(alloc: Global, step: Step) -> Result<Option<Vector>, Memory> {

@@ -1,7 +1,7 @@
-use Rattle.std.proofs.Common.{◌≡◌, ℕ, true, false, nat_le, List, length, refl, sym, ap, ◌∙◌, true≢false}
+use Rattle.std.proofs.Common.{◌≡◌, ℕ, true, false, nat_le, List, option_to_list, length, refl, sym, ap, ◌∙◌, true≢false}
 use Rattle.std.specs.List.{list_all}
 use Rattle.adg_base.specs.declared.command.Condition.{Condition}
-use Rattle.adg_model.specs.Query.{columns_in, some_list}
+use Rattle.adg_model.specs.Query.{columns_in}
 use Rattle.adg_model.proofs.PlainMeaning.{all_columns}
 use Rattle.adg_model.proofs.plain.meaning.has_columns.Goals as goal
 use Rattle.adg_model.proofs.plain.meaning.has_columns.Goals.{then-has_asked, else-has_asked}
@@ -11,7 +11,7 @@ returns-then-has_tested c =
     let select = c.args.select.now in
     let wide : c.len-width.result ≡ length c.args.table.now.kinds = c.len-width.ensures ∙ ap length c.kinds.ensures in
     let asked = c.has_asked.ensures ∙ ap (λ (n : ℕ). list_all (λ k. nat_le k n) (columns_in select.what)) wide in
-    let grouped = c.has_group.ensures ∙ ap (λ (n : ℕ). list_all (λ k. nat_le k n) (some_list select.group)) wide in
+    let grouped = c.has_group.ensures ∙ ap (λ (n : ℕ). list_all (λ k. nat_le k n) (option_to_list select.group)) wide in
     elim c.if-has_asked.branch [
       | then-has_asked w ↦
           let tested = w.has_tested.ensures
@@ -33,8 +33,8 @@ returns-else-has_tested c =
           ∙ ap (λ (cs : List Condition). list_all (λ k. nat_le k.column c.len-width.result) cs) w.as_slice.ensures
           ∙ ap (λ (n : ℕ). list_all (λ k. nat_le k.column n) select.conditions) wide in
           c.if-has_tested.false
-          ∙ all_columns select c.args.table.now true false (list_all (λ k. nat_le k width) (some_list select.group)) (sym w.if-has_asked.true ∙ asked) (sym c.if-has_tested.false ∙ w.value-is ∙ tested) refl
+          ∙ all_columns select c.args.table.now true false (list_all (λ k. nat_le k width) (option_to_list select.group)) (sym w.if-has_asked.true ∙ asked) (sym c.if-has_tested.false ∙ w.value-is ∙ tested) refl
       | else-has_asked w ↦
           c.if-has_tested.false
-          ∙ all_columns select c.args.table.now false (list_all (λ k. nat_le k.column width) select.conditions) (list_all (λ k. nat_le k width) (some_list select.group)) (sym w.if-has_asked.false ∙ asked) refl refl
+          ∙ all_columns select c.args.table.now false (list_all (λ k. nat_le k.column width) select.conditions) (list_all (λ k. nat_le k width) (option_to_list select.group)) (sym w.if-has_asked.false ∙ asked) refl refl
     ]
