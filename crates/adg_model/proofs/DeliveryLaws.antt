@@ -18,7 +18,7 @@ first_apart : (r : Raw) (rs : List Raw) (x more : List ℕ) → (flat_map raw_by
 first_apart r rs x more =
     ap (λ l. l ++ more) (append_assoc (raw_bytes r) (flat_map raw_bytes rs) x) ∙ append_assoc (raw_bytes r) (flat_map raw_bytes rs ++ x) more
 
-raws_go_on : (mark : Mark) (rs ss : List Raw) (x y more : List ℕ) → AreRaws mark rs → AreRaws mark ss → IsPart y → (flat_map raw_bytes rs ++ x) ++ more ≡ flat_map raw_bytes ss ++ y → (ks : List Raw) × (ss ≡ rs ++ ks)
+pub raws_go_on : (mark : Mark) (rs ss : List Raw) (x y more : List ℕ) → AreRaws mark rs → AreRaws mark ss → IsPart y → (flat_map raw_bytes rs ++ x) ++ more ≡ flat_map raw_bytes ss ++ y → (ks : List Raw) × (ss ≡ rs ++ ks)
 raws_go_on mark [] ss x y more h k part e = (ss, refl)
 raws_go_on mark (r ∷ rs) [] x y more h k part e =
     absurd (raw-no_part r ((flat_map raw_bytes rs ++ x) ++ more) h.0 (subst IsPart (sym e ∙ first_apart r rs x more) part))
@@ -31,7 +31,7 @@ cons_parts : (a b : Raw) (x y : List Raw) → a ∷ x ≡ b ∷ y → (a ≡ b) 
 cons_parts a b x y e = (cc, cc)
 
 -- records with vectors, by their bytes
-same_record : (a b : RedoRecord) → AreVectors (length a.vectors) a.vectors → AreVectors (length b.vectors) b.vectors → raw_of a ≡ raw_of b → a ≡ b
+pub same_record : (a b : RedoRecord) → AreVectors (length a.vectors) a.vectors → AreVectors (length b.vectors) b.vectors → raw_of a ≡ raw_of b → a ≡ b
 same_record a b h k e =
     let count : length a.vectors ≡ length b.vectors = ap (λ (r : Raw). r.count) e in
     let vectors = vectors_bytes-same (length b.vectors) a.vectors b.vectors count (subst (λ n. AreVectors n a.vectors) count h) k (ap (λ (r : Raw). r.body) e) in

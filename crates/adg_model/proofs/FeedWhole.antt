@@ -63,7 +63,7 @@ item_apart a b x y short short' e =
     (same_item a b p.0 p.1, p.2)
 
 -- the first item before the others and what follows
-first_item : (item : Item) (items : List Item) (x : List ℕ) → items_bytes (item ∷ items) ++ x ≡ item_bytes item ++ (items_bytes items ++ x)
+pub first_item : (item : Item) (items : List Item) (x : List ℕ) → items_bytes (item ∷ items) ++ x ≡ item_bytes item ++ (items_bytes items ++ x)
 first_item item items x = append_assoc (item_bytes item) (items_bytes items) x
 
 pub items_apart : (is js : List Item) (x y : List ℕ) → AllByRecursion IsShort is → AllByRecursion IsShort js → items_bytes is ++ (end_bytes ++ x) ≡ items_bytes js ++ (end_bytes ++ y) → (is ≡ js) × (x ≡ y)
@@ -81,7 +81,7 @@ items_apart (a ∷ is) (b ∷ js) x y h k e =
 
 -- ---- the deliveries of a feed are its only ones
 
-first_delivery : (d : List Item) (ds : List (List Item)) (x : List ℕ) → deliveries_bytes (d ∷ ds) ++ x ≡ items_bytes d ++ (end_bytes ++ (deliveries_bytes ds ++ x))
+pub first_delivery : (d : List Item) (ds : List (List Item)) (x : List ℕ) → deliveries_bytes (d ∷ ds) ++ x ≡ items_bytes d ++ (end_bytes ++ (deliveries_bytes ds ++ x))
 first_delivery d ds x = append_assoc (delivery_bytes d) (deliveries_bytes ds) x ∙ append_assoc (items_bytes d) end_bytes (deliveries_bytes ds ++ x)
 
 delivery_not_stop : (d : List Item) (x y : List ℕ) → items_bytes d ++ (end_bytes ++ x) ≡ stop_bytes ++ y → ⊥
@@ -250,16 +250,16 @@ header_payload_good t s more h =
     let d : s ≤ 8 = h.1.1 in
     grind arith
 
-header_passes : (t s : ℕ) (more : List ℕ) → IsHeader t s → first_frame_fault (frame header_tag (t ∷ s ∷ []) ++ more) ≡ None
+pub header_passes : (t s : ℕ) (more : List ℕ) → IsHeader t s → first_frame_fault (frame header_tag (t ∷ s ∷ []) ++ more) ≡ None
 unfolding frame first_frame_fault
 header_passes t s more h =
     ap₂ (λ (b : Bool) (o : Option FeedKind). if b then o else None) (has_its_length 2 (t ∷ s ∷ more)) (header_payload_good t s more h)
 
-opening_long : (t s : ℕ) (x : List ℕ) → (8 ≤ length (opening_bytes t s ++ x)) × (take 8 (opening_bytes t s ++ x) ≡ magic)
+pub opening_long : (t s : ℕ) (x : List ℕ) → (8 ≤ length (opening_bytes t s ++ x)) × (take 8 (opening_bytes t s ++ x) ≡ magic)
 unfolding frame
 opening_long t s x = (omega arith, refl)
 
-opening_behind : (t s : ℕ) (x y : List ℕ) → magic ++ y ≡ opening_bytes t s ++ x → y ≡ frame header_tag (t ∷ s ∷ []) ++ x
+pub opening_behind : (t s : ℕ) (x y : List ℕ) → magic ++ y ≡ opening_bytes t s ++ x → y ≡ frame header_tag (t ∷ s ∷ []) ++ x
 unfolding frame
 opening_behind t s x y e = ap (drop 8) e
 

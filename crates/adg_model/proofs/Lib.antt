@@ -13,3 +13,7 @@ pub mod FeedLaws
 pub mod FeedWhole
 pub mod PlainWalk
 pub mod PlainMeaning
+pub mod CommitLaws
+pub mod ContinuationLaws
+pub mod FeedFaultLaws
+pub mod RedoFaultLaws

@@ -166,7 +166,7 @@ each-put_in P e (x ∷ xs) p h = by_test (comes_before e x) (each-put_in P e xs 
     by_test true k = (p, h)
     by_test false k = (h.0, k)
 
-scns_rise-put_in : (e : LogEntry) (es : List LogEntry) → ScnsRise es → ScnsRise (put_in e es)
+pub scns_rise-put_in : (e : LogEntry) (es : List LogEntry) → ScnsRise es → ScnsRise (put_in e es)
 scns_rise-put_in e [] h = (tt, tt)
 scns_rise-put_in e (x ∷ xs) h = by_test (comes_before e x) refl (scns_rise-put_in e xs h.1)
   where
@@ -176,7 +176,7 @@ scns_rise-put_in e (x ∷ xs) h = by_test (comes_before e x) refl (scns_rise-put
         ((le, each_weaker (λ y. x.scn ≤ y.scn) (λ y. e.scn ≤ y.scn) (λ y j. omega (arith, j, le)) xs h.0), h)
     by_test false t k = (each-put_in (λ y. x.scn ≤ y.scn) e xs (scn_if_not e x t) h.0, k)
 
-scns_rise-in_order : (es : List LogEntry) → ScnsRise (in_order es)
+pub scns_rise-in_order : (es : List LogEntry) → ScnsRise (in_order es)
 scns_rise-in_order [] = tt
 scns_rise-in_order (e ∷ es) = scns_rise-put_in e (in_order es) (scns_rise-in_order es)
 
@@ -415,7 +415,7 @@ apart-append : (xs ys : List LogEntry) → AllApart xs → AllApart ys → AllBy
 apart-append [] ys h k between = k
 apart-append (x ∷ xs) ys h k between = (each-append (Apart x) xs ys h.0 between.0, apart-append xs ys h.1 k between.1)
 
-each-upto : (P : LogEntry → Type 0) (scn : ℕ) (es : List LogEntry) → AllByRecursion P es → AllByRecursion P (upto scn es)
+pub each-upto : (P : LogEntry → Type 0) (scn : ℕ) (es : List LogEntry) → AllByRecursion P es → AllByRecursion P (upto scn es)
 each-upto P scn [] h = tt
 each-upto P scn (e ∷ es) h = by_test (nat_le e.scn scn) (each-upto P scn es h.1)
   where
@@ -423,7 +423,7 @@ each-upto P scn (e ∷ es) h = by_test (nat_le e.scn scn) (each-upto P scn es h.
     by_test true ih = (h.0, ih)
     by_test false ih = ih
 
-apart-upto : (scn : ℕ) (es : List LogEntry) → AllApart es → AllApart (upto scn es)
+pub apart-upto : (scn : ℕ) (es : List LogEntry) → AllApart es → AllApart (upto scn es)
 apart-upto scn [] h = tt
 apart-upto scn (e ∷ es) h = by_test (nat_le e.scn scn) (apart-upto scn es h.1)
   where
@@ -444,7 +444,7 @@ from_threads thread (rs ∷ more) h =
     (each_weaker (IsWithin thread 0 (thread_mark rs).scn) (λ e. thread ≤ e.thread) (λ e k. omega (arith, k.same_thread)) _ here)
     (each_weaker (λ e. thread + 1 ≤ e.thread) (λ e. thread ≤ e.thread) (λ e k. omega (arith, k)) _ later)
 
-apart_threads : (thread : ℕ) (threads : List (List RedoRecord)) → AreThreads threads → AllApart (entries_from thread threads)
+pub apart_threads : (thread : ℕ) (threads : List (List RedoRecord)) → AreThreads threads → AllApart (entries_from thread threads)
 apart_threads thread [] h = tt
 apart_threads thread (rs ∷ more) h =
     let front = thread_entries thread 1 rs in
@@ -466,11 +466,11 @@ ordered-put_in e (x ∷ xs) h k = by_test (comes_before e x) refl k.0 (ordered-p
     by_test false t (inl a) ih = absurd (true≢false (sym a ∙ t))
     by_test false t (inr a) ih = (each-put_in (λ y. comes_before x y ≡ true) e xs a h.0, ih)
 
-each-in_order : (P : LogEntry → Type 0) (es : List LogEntry) → AllByRecursion P es → AllByRecursion P (in_order es)
+pub each-in_order : (P : LogEntry → Type 0) (es : List LogEntry) → AllByRecursion P es → AllByRecursion P (in_order es)
 each-in_order P [] h = tt
 each-in_order P (e ∷ es) h = each-put_in P e (in_order es) h.0 (each-in_order P es h.1)
 
-ordered-in_order : (es : List LogEntry) → AllApart es → Ordered (in_order es)
+pub ordered-in_order : (es : List LogEntry) → AllApart es → Ordered (in_order es)
 ordered-in_order [] h = tt
 ordered-in_order (e ∷ es) h = ordered-put_in e (in_order es) (ordered-in_order es h.1) (each-in_order (Apart e) es h.0)
 
@@ -478,7 +478,7 @@ before-numbered : (x : LogEntry) (pos : ℕ) (es : List LogEntry) → AllByRecur
 before-numbered x pos [] h = tt
 before-numbered x pos (e ∷ es) h = (h.0, before-numbered x (pos + 1) es h.1)
 
-ordered-numbered : (pos : ℕ) (es : List LogEntry) → Ordered es → Ordered (numbered pos es)
+pub ordered-numbered : (pos : ℕ) (es : List LogEntry) → Ordered es → Ordered (numbered pos es)
 ordered-numbered pos [] h = tt
 ordered-numbered pos (e ∷ es) h = (before-numbered (record e { pos = pos }) (pos + 1) es h.0, ordered-numbered (pos + 1) es h.1)
 
@@ -495,7 +495,7 @@ permutation-put_in e (x ∷ xs) = by_test (comes_before e x) (permutation-put_in
     by_test true ih = IsPermutation-refl (e ∷ x ∷ xs)
     by_test false ih = IsPermutation-trans (e ∷ x ∷ xs) (x ∷ e ∷ xs) (x ∷ put_in e xs) (IsPermutation-middle (e ∷ []) x xs) (IsPermutation-cons x (e ∷ xs) (put_in e xs) ih)
 
-permutation-in_order : (es : List LogEntry) → IsPermutation es (in_order es)
+pub permutation-in_order : (es : List LogEntry) → IsPermutation es (in_order es)
 permutation-in_order [] = IsPermutation-refl []
 permutation-in_order (e ∷ es) =
     IsPermutation-trans (e ∷ es) (e ∷ in_order es) (put_in e (in_order es)) (IsPermutation-cons e es (in_order es) (permutation-in_order es)) (permutation-put_in e (in_order es))

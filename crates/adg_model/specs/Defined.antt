@@ -1,5 +1,5 @@
 -- The definition of an object as a value of the code, beside the definition that the log gives it.
-use Rattle.std.specs.Prelude.{ℕ, ◌≡◌, List, length, take, Option, Some, None}
+use Rattle.std.specs.Prelude.{ℕ, ◌≡◌, length, take, Option, Some, None}
 use Rattle.adg_base.specs.declared.definition.Definition.{Definition}
 use Rattle.adg_model.specs.Database.{Table}
 

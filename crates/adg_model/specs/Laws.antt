@@ -12,9 +12,13 @@ use Rattle.adg_base.specs.declared.answer.Lines.{Lines}
 use Rattle.adg_base.specs.declared.answer.Reply.{Reply}
 use Rattle.adg_base.specs.declared.answer.Reply.TheVariants.{Rows, Populated}
 use Rattle.adg_model.specs.declared.delivery.RawDelivery.{RawDelivery}
+use Rattle.adg_model.specs.declared.fault.FeedKind.{FeedKind}
+use Rattle.adg_model.specs.declared.fault.RedoFault.{RedoFault}
+use Rattle.adg_model.specs.Feed.{Item, BeginsFeed, FeedFails}
 use Rattle.adg_model.specs.Records.{first_mark, raw_of, AreRaws, IsRecord, record_bytes}
 use Rattle.adg_model.specs.Log.{frontier, entries_from, comes_before, upto, merged_log, ReceivedFrom}
 use Rattle.adg_model.specs.Database.{commits, commit_scns, rows_at, table_at}
+use Rattle.adg_model.specs.Sound.{IsSound, IsContinuation, IsRedoFault}
 use Rattle.adg_model.specs.Command.{IsCommand, command_bytes}
 use Rattle.adg_model.specs.Reply.{IsReply}
 use Rattle.adg_model.specs.Transcript.{scn_of, replies_to, LegalFrom}
@@ -40,6 +44,26 @@ abbrev pub LogGrowsByDelivery : Type 0
 LogGrowsByDelivery =
     (deliveries more : List RawDelivery) (old new : List (List RedoRecord)) → length old ≡ length new
     → ReceivedFrom 1 deliveries old → ReceivedFrom 1 (deliveries ++ more) new → HasGrown old new
+
+-- What deliveries add to a sound log continues it, from the frontier that was to the new one.
+abbrev pub LogContinues : Type 0
+LogContinues =
+    (deliveries more : List RawDelivery) (old new : List (List RedoRecord)) → length old ≡ length new
+    → ReceivedFrom 1 deliveries old → ReceivedFrom 1 (deliveries ++ more) new → IsSound (merged_log new)
+    → (rest : List LogEntry) × (merged_log new ≡ merged_log old ++ rest) × IsContinuation (merged_log old) (frontier old) rest (frontier new)
+
+-- Bytes have at most one first fault, behind the same deliveries, and none where they begin with a whole
+-- feed.
+abbrev pub OneFeedFault : Type 0
+OneFeedFault =
+    (bytes : List ℕ) (t s : ℕ) (ds : List (List Item)) (fault : FeedKind) (byte : ℕ) → FeedFails bytes t s ds fault byte
+    → ((t' s' : ℕ) (ds' : List (List Item)) (fault' : FeedKind) (byte' : ℕ) → FeedFails bytes t' s' ds' fault' byte' → (ds ≡ ds') × (fault ≡ fault') × (byte ≡ byte'))
+    × ((t' s' : ℕ) (ds' : List (List Item)) (unread : List ℕ) → BeginsFeed bytes t' s' ds' unread → ⊥)
+
+-- Deliveries have at most one redo fault.
+abbrev pub OneRedoFault : Type 0
+OneRedoFault =
+    (threads : ℕ) (deliveries : List RawDelivery) (a b : RedoFault) → IsRedoFault threads deliveries a → IsRedoFault threads deliveries b → a ≡ b
 
 -- Deliveries give so many threads the records of one list each, and of no other.
 abbrev pub RecordsAreDetermined : Type 0
@@ -86,6 +110,10 @@ is_of t EndThread = false
 -- whether a transaction commits in a log
 abbrev pub has_committed : ℕ → List LogEntry → Bool
 has_committed t log = list_any (λ e. commits t e.vector) log
+
+-- A sound log commits a transaction at most once.
+abbrev pub CommittedOnce : Type 0
+CommittedOnce = (log : List LogEntry) (t : ℕ) → IsSound log → length (commit_scns t log) ≤ 1
 
 -- a log without the entries of a transaction
 abbrev pub without : ℕ → List LogEntry → List LogEntry

@@ -1,7 +1,7 @@
 //! Laws of the definitions in `specs/`, each the promise of a function that does nothing: evidence
 //! that the definitions say what they mean.
 
-ghost use Rattle.adg_model.specs.Laws.{LogGrows, LogGrowsByDelivery, LogIsOrdered, NoPrefix, OneCommand, OneReply, RecordsAreDetermined, RowsStopAtScn, ScnsDoNotFall, UncommittedChangeNothing};
+ghost use Rattle.adg_model.specs.Laws.{CommittedOnce, LogContinues, LogGrows, LogGrowsByDelivery, LogIsOrdered, NoPrefix, OneCommand, OneFeedFault, OneRedoFault, OneReply, RecordsAreDetermined, RowsStopAtScn, ScnsDoNotFall, UncommittedChangeNothing};
 
 /// As threads get more records the merged log only grows, at SCNs above the frontier that was, and
 /// the frontier does not fall.
@@ -12,6 +12,26 @@ pub fn log_grows()
 /// As more deliveries come the merged log only grows, in the same way.
 pub fn log_grows_by_delivery()
     ensures { LogGrowsByDelivery }
+{}
+
+/// What deliveries add to a sound log continues it, from the frontier that was to the new one.
+pub fn log_continues()
+    ensures { LogContinues }
+{}
+
+/// Bytes have at most one first fault of a feed, and none where they begin with a whole one.
+pub fn one_feed_fault()
+    ensures { OneFeedFault }
+{}
+
+/// Deliveries have at most one redo fault.
+pub fn one_redo_fault()
+    ensures { OneRedoFault }
+{}
+
+/// A sound log commits a transaction at most once, so at one SCN at most.
+pub fn committed_once()
+    ensures { CommittedOnce }
 {}
 
 /// The records of threads are the only ones that their deliveries give.
