@@ -17,3 +17,4 @@ pub mod CommitLaws
 pub mod ContinuationLaws
 pub mod FeedFaultLaws
 pub mod RedoFaultLaws
+pub mod PlainLines

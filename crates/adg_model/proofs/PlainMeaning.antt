@@ -1,24 +1,16 @@
 -- Lemmas on the meaning of a SELECT as the plain program computes it.
-use Rattle.std.proofs.Common.{◌≡◌, ℕ, zero, suc, ◌<◌, take, get_or, ◌+◌, Bool, true, false, not, nat_le, ◌&&◌, List, [], ◌∷◌, ◌++◌, map, length, replicate, Option, Some, None, option_to_list, is_some, pos, refl, sym, ap, ap₂, ◌∙◌, subst, arith, append_assoc, append-nil}
+use Rattle.std.proofs.Common.{◌≡◌, ℕ, zero, suc, ◌+◌, Bool, true, false, nat_le, ◌&&◌, List, [], ◌∷◌, ◌++◌, map, length, replicate, Option, Some, None, option_to_list, refl, sym, ap, ap₂, ◌∙◌, arith, append_assoc, append-nil}
 use Rattle.std.specs.List.{list_all, flat_map, filter_map, range_with_len, cons_option}
-use Rattle.std.proofs.lemmas.List.{map-append, length-map, take_more}
+use Rattle.std.proofs.lemmas.List.{map-append}
 use Rattle.std.proofs.lemmas.List.Elements.{filter_map-append}
 use Rattle.std.proofs.lemmas.List.Folds.{list_all-append, list_all-map}
 use Rattle.std.proofs.lemmas.List.FromFn.{map-range_with_len_more}
-use Rattle.std.proofs.lemmas.Bool.{and_parts}
 use Rattle.adg_base.specs.Address.{Place}
 use Rattle.adg_base.specs.declared.value.Value.{Value}
-use Rattle.adg_base.specs.declared.answer.Cell.{Cell}
-use Rattle.adg_base.specs.declared.answer.Cell.TheVariants as cell
 use Rattle.adg_base.specs.declared.command.Select.{Select}
 use Rattle.adg_base.specs.declared.command.Aggregate.{Aggregate}
-use Rattle.adg_base.specs.declared.command.Aggregate.TheVariants.{Count, Sum, Min, Max}
-use Rattle.adg_base.specs.declared.command.What.{What}
-use Rattle.adg_base.specs.declared.command.What.TheVariants.{Aggregates}
 use Rattle.adg_model.specs.Database.{Rows, Table, place}
-use Rattle.adg_model.specs.Query.{padded, object_rows, table_rows, filtered, columns_in, column_of, has_columns, aggregate_cells, result_lines, answer_of, row_count}
-use Rattle.adg_model.specs.Plain.{is_count, are_counts, only_counts}
-use Rattle.adg_model.specs.declared.plain.PlainReply.TheVariants as reply
+use Rattle.adg_model.specs.Query.{padded, columns_in, column_of, has_columns}
 
 -- one Null more
 pub replicate_more : (n : ℕ) (v : Value) → replicate (n + 1) v ≡ replicate n v ++ v ∷ []
@@ -85,43 +77,3 @@ all_columns select table asked tested grouped a t g =
     let columns = map (λ c. c.column) select.conditions in
     ap₂ (λ (x y : Bool). x && y) (ap₂ (λ (x y : Bool). x && y) a (t ∙ sym (list_all-map p (λ c. c.column) select.conditions))) g
     ∙ sym (list_all-append p (columns_in select.what ++ columns) (option_to_list select.group) ∙ ap (λ b. b && list_all p (option_to_list select.group)) (list_all-append p (columns_in select.what) columns))
-
--- the answer where only counts are asked for
-pub counts_only : (aggregates : List Aggregate) (rows : List (List Value)) → list_all is_count aggregates ≡ true → aggregate_cells aggregates rows ≡ map (λ _. cell.Number (pos (length rows))) aggregates
-counts_only [] rows h = refl
-counts_only (Count ∷ as') rows h = ap (λ l. cell.Number (pos (length rows)) ∷ l) (counts_only as' rows h)
-counts_only (Sum c ∷ as') rows h = cc
-counts_only (Min c ∷ as') rows h = cc
-counts_only (Max c ∷ as') rows h = cc
-
-pub lines_of_counts : (what : What) (group : Option ℕ) (aggregates : List Aggregate) (rows : List (List Value)) → what ≡ Aggregates aggregates → (are_counts what && not (is_some group)) ≡ true → result_lines what group rows ≡ map (λ _. cell.Number (pos (length rows))) aggregates ∷ []
-lines_of_counts what group aggregates rows asked only =
-    ap (λ (w : What). result_lines w group rows) asked
-    ∙ in_one_line group (subst (λ (w : What). (are_counts w && not (is_some group)) ≡ true) asked only)
-  where
-    in_one_line : (g : Option ℕ) → (list_all is_count aggregates && not (is_some g)) ≡ true → result_lines (Aggregates aggregates) g rows ≡ map (λ _. cell.Number (pos (length rows))) aggregates ∷ []
-    in_one_line None h = ap (λ (l : List Cell). l ∷ []) (counts_only aggregates rows (and_parts (list_all is_count aggregates) true h).0)
-    in_one_line (Some c) h = absurd (no_group (list_all is_count aggregates) h)
-      where
-        no_group : (b : Bool) → (b && false) ≡ true → ⊥
-        no_group true h = cc
-        no_group false h = cc
-
-pub reply_of_counts : (rows : Rows) (select : Select) (table : Table) (aggregates : List Aggregate) (kept : List (List Value)) (number count : ℕ) (cells : List Cell)
-    → kept ≡ table_rows rows select.obj table
-    → number ≡ length (filtered select.conditions kept)
-    → cells ≡ map (λ _. cell.Number (pos number)) aggregates
-    → count ≡ length kept
-    → select.what ≡ Aggregates aggregates
-    → only_counts select ≡ true
-    → reply.Rows (cells ∷ []) count ≡ reply.Rows (answer_of rows select table) (row_count rows select.obj table)
-reply_of_counts rows select table aggregates kept number count cells k n c m asked only =
-    let met : number ≡ length (filtered select.conditions (table_rows rows select.obj table)) = n ∙ ap (λ (ks : List (List Value)). length (filtered select.conditions ks)) k in
-    ap₂ reply.Rows
-    (ap (λ (cs : List Cell). cs ∷ []) (c ∙ ap (λ (i : ℕ). map (λ _. cell.Number (pos i)) aggregates) met)
-    ∙ sym (lines_of_counts select.what select.group aggregates (filtered select.conditions (table_rows rows select.obj table)) asked only))
-    (m ∙ ap (λ (ks : List (List Value)). length ks) k ∙ length-map (object_rows rows select.obj table.extents) (padded (length table.kinds)))
-
--- one cell more
-pub cells_more : (v : Cell) (aggregates : List Aggregate) (i : ℕ) → i < length aggregates → map (λ _. v) (take (i + 1) aggregates) ≡ map (λ _. v) (take i aggregates) ++ v ∷ []
-cells_more v aggregates i h = ap (map (λ _. v)) (take_more aggregates i Count h) ∙ map-append (λ _. v) (take i aggregates) (get_or aggregates i Count ∷ [])

@@ -1,36 +1,32 @@
 -- The reply of the plain program to a command.
-use Rattle.std.specs.Prelude.{ℕ, Bool, true, false, ◌&&◌, not, if◌then◌else◌, is_some, List, Option, Some, None}
-use Rattle.std.specs.List.{list_all}
+use Rattle.std.specs.Prelude.{ℕ, Bool, ◌+◌, if◌then◌else◌, List, [], ◌∷◌, Option, Some, None, option_map}
+use Rattle.std.specs.Ordering.{is_lt, is_gt}
+use Rattle.std.specs.declared.cmp.Ordering.{Ordering}
+use Rattle.adg_base.specs.declared.value.Value.{Value}
 use Rattle.adg_base.specs.declared.log.LogEntry.{LogEntry}
 use Rattle.adg_base.specs.declared.command.Command.{Command}
 use Rattle.adg_base.specs.declared.command.Command.TheVariants as command
 use Rattle.adg_base.specs.declared.command.Select.{Select}
-use Rattle.adg_base.specs.declared.command.What.{What}
-use Rattle.adg_base.specs.declared.command.What.TheVariants.{All, Aggregates}
-use Rattle.adg_base.specs.declared.command.Aggregate.{Aggregate}
-use Rattle.adg_base.specs.declared.command.Aggregate.TheVariants.{Count, Sum, Min, Max}
 use Rattle.adg_model.specs.Database.{Rows, Table, rows_at, table_at}
-use Rattle.adg_model.specs.Query.{answer_of, row_count, has_columns, has_types}
+use Rattle.adg_model.specs.Query.{answer_of, row_count, has_columns, has_types, value_cmp, by_order}
 use Rattle.adg_model.specs.declared.plain.PlainReply.{PlainReply}
 use Rattle.adg_model.specs.declared.plain.PlainReply.TheVariants as reply
+use Rattle.adg_model.specs.declared.plain.lines.Extreme.{Extreme}
+use Rattle.adg_model.specs.declared.plain.lines.Extreme.TheVariants.{Least, Greatest}
 
 -- no address has a row
 abbrev pub no_rows : Rows
 no_rows = λ a. None
 
--- The SELECTs that the plain program speaks of: those that ask for counts only, without groups.
-abbrev pub is_count : Aggregate → Bool
-is_count Count = true
-is_count (Sum column) = false
-is_count (Min column) = false
-is_count (Max column) = false
+-- which of two values is preferred where the least or the greatest is asked for
+abbrev pub prefers : Extreme → Ordering → Bool
+prefers Least o = is_lt o
+prefers Greatest o = is_gt o
 
-abbrev pub are_counts : What → Bool
-are_counts All = false
-are_counts (Aggregates aggregates) = list_all is_count aggregates
-
-abbrev pub only_counts : Select → Bool
-only_counts select = are_counts select.what && not (is_some select.group)
+-- where a key goes among keys in their order; nowhere where it is one of them
+abbrev pub key_place : Value → List Value → Option ℕ
+key_place k [] = Some 0
+key_place k (x ∷ xs) = by_order (value_cmp k x) (Some 0) None (option_map (λ n. n + 1) (key_place k xs))
 
 -- the reply to a SELECT over rows, where its object may have a definition
 abbrev pub select_reply : Rows → Select → Option Table → PlainReply
@@ -40,11 +36,14 @@ select_reply rows select (Some table) =
     then (if has_types select table then reply.Rows (answer_of rows select table) (row_count rows select.obj table) else reply.WrongType)
     else reply.NoColumn
 
--- the reply to a command over a log at an SCN
+-- the reply to a POPULATE of an object that may have a definition: what an in-memory object is answered
+-- is left to the caller
+abbrev pub populate_reply : Option Table → PlainReply
+populate_reply None = reply.NoTable
+populate_reply (Some table) = if table.flag then reply.Plain else reply.NotInMemory
+
+-- The reply to a command over a log at an SCN. A command that asks nothing of the rows is left to the caller.
 abbrev pub plain_reply : List LogEntry → Command → ℕ → PlainReply
-plain_reply log (command.Select select) scn =
-    if only_counts select then select_reply (rows_at log scn) select (table_at log scn select.obj) else reply.Plain
-plain_reply log (command.Populate obj) scn = reply.Plain
-plain_reply log command.Sync scn = reply.Plain
-plain_reply log command.ShowScn scn = reply.Plain
-plain_reply log command.Abort scn = reply.Plain
+plain_reply log (command.Select select) scn = select_reply (rows_at log scn) select (table_at log scn select.obj)
+plain_reply log (command.Populate obj) scn = populate_reply (table_at log scn obj)
+plain_reply log other scn = reply.Plain

@@ -1,15 +1,13 @@
 //! The meaning of a SELECT over the changes that are committed, by the definitions one by one.
 
-ghost use Rattle.std.specs.Prelude.{◌≡◌, ◌++◌, ◌&&◌, [], ◌∷◌, pos, map, length, nat_le, not, option_to_list, IfOk, OnOk};
+ghost use Rattle.std.specs.Prelude.{◌≡◌, ◌++◌, ◌&&◌, [], ◌∷◌, map, length, nat_le, not, option_to_list, IfOk, OnOk};
 ghost use Rattle.std.specs.List.{filter_map, list_all};
-ghost use Rattle.adg_base.specs.declared.answer.Cell.TheVariants as cell;
 ghost use Rattle.adg_model.specs.Database.{place, played};
 ghost use Rattle.adg_model.specs.Query as query;
-ghost use Rattle.adg_model.specs.Query.{allows, block_places, columns_in, column_of, filtered, fits_column, padded, table_rows, value_cmp};
+ghost use Rattle.adg_model.specs.Query.{allows, block_places, columns_in, column_of, fits_column, padded, table_rows, value_cmp};
 ghost use Rattle.adg_model.specs.Plain.{no_rows};
 
 use super::walk::{PlainChange, PlainTable, row_at};
-use adg_base::answer::{Cell, CellList};
 use adg_base::command::{Aggregate, Condition, Op, Select, What};
 use adg_base::list::{Duplicate, List};
 use adg_base::memory::Memory;
@@ -95,16 +93,8 @@ fn values_of(alloc: Global, row: &Row) -> Result<List<Value>, Memory>
     Ok(values)
 }
 
-/// How many rows meet all conditions.
-pub fn count(rows: &[Row], conditions: &[Condition]) -> usize
-    ensures { result ≡ length (filtered conditions.now rows.now) }
-{
-    rows.iter()
-        .filter(|row| meets_all(row.as_slice(), conditions))
-        .count()
-}
-
-fn meets_all(row: &[Value], conditions: &[Condition]) -> bool
+/// Whether a row meets all conditions.
+pub fn meets_all(row: &[Value], conditions: &[Condition]) -> bool
     ensures { result ≡ list_all (query.meets row.now) conditions.now }
 {
     conditions.iter().all(|condition| meets(row, condition))
@@ -125,7 +115,8 @@ fn compares(value: &Value, op: Op, literal: &Value) -> bool
     !is_null(value) && !is_null(literal) && is_allowed(op, compare(value, literal))
 }
 
-fn is_null(value: &Value) -> bool
+/// Whether there is no value.
+pub fn is_null(value: &Value) -> bool
     ensures { result ≡ query.is_null value.now }
 {
     match value {
@@ -147,7 +138,8 @@ fn is_allowed(op: Op, order: Ordering) -> bool
     }
 }
 
-fn compare(left: &Value, right: &Value) -> Ordering
+/// The order of two values, as the definition has it.
+pub fn compare(left: &Value, right: &Value) -> Ordering
     ensures { result ≡ value_cmp left.now right.now }
 {
     match (left, right) {
@@ -274,15 +266,4 @@ fn sum_fits(aggregate: Aggregate, table: &PlainTable) -> bool
             Some(ColKind::Text) | None => false,
         },
     }
-}
-
-/// A number once for each count that was asked for.
-pub fn cells(alloc: Global, aggregates: &[Aggregate], number: u64) -> Result<CellList, Memory>
-    ensures { IfOk result (λ cells. cells ≡ map (λ _. cell.Number (pos number)) aggregates.now) }
-{
-    let mut cells = List::new(alloc);
-    for _ in aggregates {
-        cells.push(Cell::Number(number as i128))?;
-    }
-    Ok(cells)
 }

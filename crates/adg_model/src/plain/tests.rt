@@ -1,14 +1,16 @@
 use super::{PlainReply, plain_answer};
-use adg_base::answer::Cell;
+use adg_base::answer::{Cell, CellList};
 use adg_base::command::{Aggregate, Command, Condition, Op, Select, What};
 use adg_base::list::List;
 use adg_base::log::LogEntry;
 use adg_base::memory::Memory;
 use adg_base::number::{Obj, Pos, Scn, Txn};
+use adg_base::row::Row;
 use adg_base::text::Text;
 use adg_base::value::{ColKind, Value};
 use adg_base::vector::Vector;
 use std::alloc::Global;
+use std::test::Fail;
 
 /// A vector written short: transactions by their numbers, and slots of the first block of an
 /// in-memory object that has one extent and a column of integers.
@@ -21,34 +23,26 @@ enum Step {
     Undo(u64, u8),
     Commit(u64),
     Abort(u64),
+    Pair(u64, u8, Option<i64>, Option<&'static str>),
     Widen,
+    Plain,
     Drop,
 }
 
-/// What is asked: the count of all rows, of those whose column compares so with a number or with a
-/// text, or something that the plain program does not speak of.
+/// What is asked: the rows, aggregates of all rows or of those that meet a condition, groups by a
+/// column, or another command.
 #[derive(Clone, Copy)]
 enum Ask {
-    Count,
-    Twice,
-    Where(u8, Op, i64),
-    Named(u8),
     Rows,
-    Sum,
-    Keys,
+    Of(&'static [Aggregate]),
+    Where(u8, Op, i64),
+    Named(u8, Op, &'static str),
+    By(u8, &'static [Aggregate]),
+    Populate,
     Sync,
 }
 
-/// The count, once or more, and the number of rows before the filter, or another reply.
-#[derive(Clone, Copy, Debug, PartialEq)]
-enum Told {
-    Counts(i128, usize, u64),
-    NoTable,
-    NoColumn,
-    WrongType,
-    Plain,
-    Other,
-}
+const COUNT: Ask = Ask::Of(&[Aggregate::Count]);
 
 /// Two transactions set one row, and the one that wrote first commits last.
 const COMMIT_POSITION: [(u64, Step); 7] = [
@@ -111,8 +105,8 @@ const TWO_THREADS: [(u64, Step); 17] = [
     (50, Step::Delete(11, 0)),
 ];
 
-/// Rows are added and deleted, and the object gets a column and is dropped.
-const CHANGED_OBJECT: [(u64, Step); 13] = [
+/// Rows are added and deleted, and the object gets a column, is no longer in-memory and is dropped.
+const CHANGED_OBJECT: [(u64, Step); 14] = [
     (10, Step::Create),
     (11, Step::Begin(7)),
     (11, Step::Put(7, 0, 1)),
@@ -125,12 +119,59 @@ const CHANGED_OBJECT: [(u64, Step); 13] = [
     (13, Step::Delete(9, 1)),
     (13, Step::Commit(9)),
     (14, Step::Widen),
-    (15, Step::Drop),
+    (15, Step::Plain),
+    (16, Step::Drop),
 ];
+
+/// Five rows of two columns, with a missing number and a missing name.
+const GROUPS: [(u64, Step); 9] = [
+    (10, Step::Create),
+    (10, Step::Widen),
+    (11, Step::Begin(7)),
+    (11, Step::Pair(7, 0, Some(1), Some("a"))),
+    (11, Step::Pair(7, 1, Some(2), Some("b"))),
+    (11, Step::Pair(7, 2, Some(5), Some("a"))),
+    (11, Step::Pair(7, 3, None, Some("b"))),
+    (11, Step::Pair(7, 4, Some(7), None)),
+    (11, Step::Commit(7)),
+];
+
+/// Sums beyond the range of a value, both ways.
+const ENDS_OF_RANGES: [(u64, Step); 9] = [
+    (10, Step::Create),
+    (11, Step::Begin(7)),
+    (11, Step::Put(7, 0, i64::MAX)),
+    (11, Step::Put(7, 63, i64::MAX)),
+    (11, Step::Commit(7)),
+    (12, Step::Begin(8)),
+    (12, Step::Put(8, 0, i64::MIN)),
+    (12, Step::Put(8, 63, i64::MIN)),
+    (12, Step::Commit(8)),
+];
+
+fn named(alloc: Global, name: &str) -> Result<Value, Memory> {
+    match Text::new(alloc, name.as_bytes()) {
+        Ok(text) => Ok(Value::Text(text)),
+        Err(_) => Err(Memory),
+    }
+}
+
+fn row_of(alloc: Global, number: Option<i64>, name: Option<&str>) -> Result<Row, Memory> {
+    let mut values = Vec::new(alloc);
+    match number {
+        Some(number) => values.push(Value::Int(number))?,
+        None => values.push(Value::Null)?,
+    }
+    match name {
+        Some(name) => values.push(named(alloc, name)?)?,
+        None => values.push(Value::Null)?,
+    }
+    Row::from_vec(alloc, values)
+}
 
 fn vector_of(alloc: Global, step: Step, obj: Obj, one: Txn) -> Result<Vector, Memory> {
     let block = 0;
-    let named = |number: u64| Txn::new(number).unwrap_or(one);
+    let txn_of = |number: u64| Txn::new(number).unwrap_or(one);
     let vector = match step {
         Step::Create => Vector::Create {
             obj,
@@ -138,39 +179,46 @@ fn vector_of(alloc: Global, step: Step, obj: Obj, one: Txn) -> Result<Vector, Me
             flag: true,
             columns: List::from_slice(alloc, [ColKind::Int].as_slice())?,
         },
-        Step::Begin(txn) => Vector::Begin { txn: named(txn) },
+        Step::Begin(txn) => Vector::Begin { txn: txn_of(txn) },
         Step::Put(txn, slot, number) => {
-            let mut row = List::new(alloc);
-            row.push(Value::Int(number))?;
+            let values = vec![in alloc; Value::Int(number)]?;
             Vector::Put {
-                txn: named(txn),
+                txn: txn_of(txn),
                 obj,
                 block,
                 slot,
-                row,
+                row: Row::from_vec(alloc, values)?,
             }
         }
+        Step::Pair(txn, slot, number, name) => Vector::Put {
+            txn: txn_of(txn),
+            obj,
+            block,
+            slot,
+            row: row_of(alloc, number, name)?,
+        },
         Step::Delete(txn, slot) => Vector::Delete {
-            txn: named(txn),
+            txn: txn_of(txn),
             obj,
             block,
             slot,
         },
         Step::Undo(txn, slot) => Vector::Undo {
-            txn: named(txn),
+            txn: txn_of(txn),
             obj,
             block,
             slot,
         },
         Step::Commit(txn) => Vector::Commit {
-            txn: named(txn),
+            txn: txn_of(txn),
             flag: true,
         },
-        Step::Abort(txn) => Vector::Abort { txn: named(txn) },
+        Step::Abort(txn) => Vector::Abort { txn: txn_of(txn) },
         Step::Widen => Vector::AddColumn {
             obj,
             kind: ColKind::Text,
         },
+        Step::Plain => Vector::NoInMemory { obj },
         Step::Drop => Vector::DropObject { obj },
     };
     Ok(vector)
@@ -205,30 +253,31 @@ fn condition(column: u8, op: Op, literal: Value) -> Condition {
     }
 }
 
+fn aggregates_of(alloc: Global, aggregates: &[Aggregate]) -> Result<What, Memory> {
+    Ok(What::Aggregates(List::from_slice(alloc, aggregates)?))
+}
+
 fn command_of(alloc: Global, ask: Ask, obj: Obj) -> Result<Command, Memory> {
-    let mut aggregates = List::new(alloc);
     let mut conditions = List::new(alloc);
-    aggregates.push(Aggregate::Count)?;
-    match ask {
-        Ask::Twice => aggregates.push(Aggregate::Count)?,
-        Ask::Where(column, op, number) => {
-            conditions.push(condition(column, op, Value::Int(number)))?
-        }
-        Ask::Named(column) => match Text::new(alloc, b"one".as_slice()) {
-            Ok(text) => conditions.push(condition(column, Op::Eq, Value::Text(text)))?,
-            Err(_) => return Err(Memory),
-        },
-        Ask::Sum => aggregates.push(Aggregate::Sum(1))?,
-        Ask::Sync => return Ok(Command::Sync),
-        Ask::Count | Ask::Rows | Ask::Keys => {}
-    }
+    let mut group = None;
     let what = match ask {
         Ask::Rows => What::All,
-        _ => What::Aggregates(aggregates),
-    };
-    let group = match ask {
-        Ask::Keys => Some(1),
-        _ => None,
+        Ask::Of(aggregates) => aggregates_of(alloc, aggregates)?,
+        Ask::Where(column, op, number) => {
+            conditions.push(condition(column, op, Value::Int(number)))?;
+            What::All
+        }
+        Ask::Named(column, op, name) => {
+            conditions.push(condition(1, Op::Gt, Value::Int(0)))?;
+            conditions.push(condition(column, op, named(alloc, name)?))?;
+            aggregates_of(alloc, &[Aggregate::Count])?
+        }
+        Ask::By(column, aggregates) => {
+            group = Some(column);
+            aggregates_of(alloc, aggregates)?
+        }
+        Ask::Populate => return Ok(Command::Populate { obj }),
+        Ask::Sync => return Ok(Command::Sync),
     };
     Ok(Command::Select(Select {
         obj,
@@ -238,193 +287,216 @@ fn command_of(alloc: Global, ask: Ask, obj: Obj) -> Result<Command, Memory> {
     }))
 }
 
-fn outcome(reply: &PlainReply) -> Told {
-    match reply {
-        PlainReply::Rows(answer, before) => match answer.as_slice() {
-            [line] => match line.as_slice() {
-                [Cell::Number(number), ..] => Told::Counts(*number, line.len(), *before),
-                _ => Told::Other,
-            },
-            _ => Told::Other,
-        },
-        PlainReply::NoTable => Told::NoTable,
-        PlainReply::NoColumn => Told::NoColumn,
-        PlainReply::WrongType => Told::WrongType,
-        PlainReply::Plain => Told::Plain,
+fn push_cell(alloc: Global, text: &mut String, cell: &Cell) -> Result<(), Memory> {
+    match cell {
+        Cell::Null => text.push_str("NULL")?,
+        Cell::Number(number) => text.push_str(format!(in alloc; "{number}")?.as_str())?,
+        Cell::Text(name) => text.push_str(str::from_utf8(name.as_bytes()).unwrap_or("?"))?,
     }
+    Ok(())
 }
 
-fn tell(alloc: Global, steps: &[(u64, Step)], ask: Ask, q: u64) -> Result<Told, Memory> {
+fn push_line(alloc: Global, text: &mut String, line: &CellList) -> Result<(), Memory> {
+    for cell in line.as_slice() {
+        push_cell(alloc, text, cell)?;
+        text.push_str("|")?;
+    }
+    text.push_str(";")?;
+    Ok(())
+}
+
+/// A reply as a text: of rows the cells, each before a bar, the lines, each before a semicolon, and
+/// the number of rows before the filter.
+fn shown(alloc: Global, reply: &PlainReply) -> Result<String, Memory> {
+    let PlainReply::Rows(answer, before) = reply else {
+        return Ok(format!(in alloc; "{reply:?}")?);
+    };
+    let mut text = String::new(alloc);
+    for line in answer.as_slice() {
+        push_line(alloc, &mut text, line)?;
+    }
+    text.push_str(format!(in alloc; "{before}")?.as_str())?;
+    Ok(text)
+}
+
+fn tell(alloc: Global, steps: &[(u64, Step)], ask: Ask, q: u64) -> Result<String, Memory> {
     let (Some(obj), Some(one), Some(q)) = (Obj::new(1), Txn::new(1), Scn::new(q)) else {
-        return Ok(Told::Other);
+        return Ok(String::new(alloc));
     };
     let log = log_of(alloc, steps, obj, one)?;
     let command = command_of(alloc, ask, obj)?;
-    Ok(outcome(&plain_answer(alloc, log.as_slice(), &command, q)?))
+    shown(alloc, &plain_answer(alloc, log.as_slice(), &command, q)?)
 }
 
 #[test]
-fn answers_the_worked_logs(rt: HostRuntime) {
-    use Ask::{Count, Keys, Named, Rows, Sum, Sync, Twice, Where};
-    use Told::{Counts, NoColumn, NoTable, Plain, WrongType};
+fn answers_the_worked_logs(rt: HostRuntime) -> Result<(), Fail> {
+    use Aggregate::{Count, Max, Min, Sum};
+    use Ask::{By, Named, Of, Populate, Rows, Sync, Where};
 
+    let all: &[Aggregate] = &[Count, Sum(1), Min(1), Max(1)];
+    let names: &[Aggregate] = &[Min(2), Max(2)];
+    let grouped: &[Aggregate] = &[Count, Sum(1), Max(1)];
     let cases = [
-        (
-            "commit 8",
-            COMMIT_POSITION.as_slice(),
-            14,
-            Count,
-            Counts(1, 1, 1),
-        ),
-        (
-            "commit 8, its row",
-            COMMIT_POSITION.as_slice(),
-            14,
-            Where(1, Op::Eq, 2),
-            Counts(1, 1, 1),
-        ),
-        (
-            "commit 7",
-            COMMIT_POSITION.as_slice(),
-            15,
-            Count,
-            Counts(1, 1, 1),
-        ),
-        (
-            "commit 7, its row",
-            COMMIT_POSITION.as_slice(),
-            15,
-            Where(1, Op::Eq, 1),
-            Counts(1, 1, 1),
-        ),
-        (
-            "commit 7, the other row",
-            COMMIT_POSITION.as_slice(),
-            15,
-            Where(1, Op::Eq, 2),
-            Counts(0, 1, 1),
-        ),
-        ("undone", UNDONE.as_slice(), 11, Count, Counts(0, 1, 0)),
-        (
-            "not committed",
-            NOT_COMMITTED.as_slice(),
-            11,
-            Count,
-            Counts(0, 1, 0),
-        ),
-        (
-            "equal SCNs",
-            EQUAL_SCNS.as_slice(),
-            20,
-            Count,
-            Counts(1, 1, 1),
-        ),
-        (
-            "equal SCNs, the second",
-            EQUAL_SCNS.as_slice(),
-            20,
-            Where(1, Op::Gt, 1),
-            Counts(1, 1, 1),
-        ),
-        ("before all", TWO_THREADS.as_slice(), 9, Count, NoTable),
-        ("at 10", TWO_THREADS.as_slice(), 10, Count, Counts(0, 1, 0)),
-        (
-            "at 20",
-            TWO_THREADS.as_slice(),
-            20,
-            Where(1, Op::Eq, 2),
-            Counts(1, 1, 1),
-        ),
-        (
-            "at 30",
-            TWO_THREADS.as_slice(),
-            30,
-            Where(1, Op::Eq, 1),
-            Counts(1, 1, 1),
-        ),
-        (
-            "at 40",
-            TWO_THREADS.as_slice(),
-            40,
-            Where(1, Op::Eq, 4),
-            Counts(1, 1, 2),
-        ),
+        ("commit 8", COMMIT_POSITION.as_slice(), 14, Rows, "2|;1"),
+        ("commit 7", COMMIT_POSITION.as_slice(), 15, Rows, "1|;1"),
+        ("undone", UNDONE.as_slice(), 11, Rows, "0"),
+        ("not committed", NOT_COMMITTED.as_slice(), 11, COUNT, "0|;0"),
+        ("equal SCNs", EQUAL_SCNS.as_slice(), 20, Rows, "2|;1"),
+        ("before all", TWO_THREADS.as_slice(), 9, Rows, "NoTable"),
+        ("at 10", TWO_THREADS.as_slice(), 10, Rows, "0"),
+        ("at 20", TWO_THREADS.as_slice(), 20, Rows, "2|;1"),
+        ("at 30", TWO_THREADS.as_slice(), 30, Rows, "1|;1"),
+        ("at 40", TWO_THREADS.as_slice(), 40, Rows, "1|;4|;2"),
         (
             "at 50",
             TWO_THREADS.as_slice(),
             50,
             Where(1, Op::Ne, 4),
-            Counts(1, 1, 2),
+            "1|;2",
         ),
         (
-            "asked twice",
+            "equal",
             TWO_THREADS.as_slice(),
             50,
-            Twice,
-            Counts(2, 2, 2),
+            Where(1, Op::Eq, 4),
+            "4|;2",
+        ),
+        (
+            "greater",
+            TWO_THREADS.as_slice(),
+            50,
+            Where(1, Op::Gt, 1),
+            "4|;2",
         ),
         (
             "less",
             CHANGED_OBJECT.as_slice(),
             12,
             Where(1, Op::Lt, 2),
-            Counts(1, 1, 2),
+            "1|;2",
         ),
         (
             "at most",
             CHANGED_OBJECT.as_slice(),
             12,
             Where(1, Op::Le, 2),
-            Counts(2, 1, 2),
+            "1|;2|;2",
         ),
         (
             "at least",
             CHANGED_OBJECT.as_slice(),
             12,
             Where(1, Op::Ge, 2),
-            Counts(1, 1, 2),
+            "2|;2",
         ),
+        ("deleted", CHANGED_OBJECT.as_slice(), 13, COUNT, "1|;1"),
         (
-            "deleted",
-            CHANGED_OBJECT.as_slice(),
-            13,
-            Count,
-            Counts(1, 1, 1),
-        ),
-        (
-            "no such column",
+            "no column",
             CHANGED_OBJECT.as_slice(),
             13,
             Where(2, Op::Eq, 1),
-            NoColumn,
+            "NoColumn",
         ),
         (
-            "an integer is no text",
+            "no text",
             CHANGED_OBJECT.as_slice(),
             13,
-            Named(1),
-            WrongType,
+            Named(1, Op::Eq, "a"),
+            "WrongType",
         ),
         (
-            "no value in the new column",
+            "a sum of texts",
             CHANGED_OBJECT.as_slice(),
             14,
-            Named(2),
-            Counts(0, 1, 1),
+            Of(&[Sum(2)]),
+            "WrongType",
         ),
-        ("dropped", CHANGED_OBJECT.as_slice(), 15, Count, NoTable),
-        ("rows", CHANGED_OBJECT.as_slice(), 11, Rows, Plain),
-        ("a sum", CHANGED_OBJECT.as_slice(), 11, Sum, Plain),
-        ("groups", CHANGED_OBJECT.as_slice(), 11, Keys, Plain),
+        (
+            "the new column",
+            CHANGED_OBJECT.as_slice(),
+            14,
+            Rows,
+            "1|NULL|;1",
+        ),
+        (
+            "no value there",
+            CHANGED_OBJECT.as_slice(),
+            14,
+            Named(2, Op::Ne, "a"),
+            "0|;1",
+        ),
+        (
+            "in-memory",
+            CHANGED_OBJECT.as_slice(),
+            14,
+            Populate,
+            "Plain",
+        ),
+        (
+            "no longer",
+            CHANGED_OBJECT.as_slice(),
+            15,
+            Populate,
+            "NotInMemory",
+        ),
+        ("dropped", CHANGED_OBJECT.as_slice(), 16, Rows, "NoTable"),
+        (
+            "and not populated",
+            CHANGED_OBJECT.as_slice(),
+            16,
+            Populate,
+            "NoTable",
+        ),
         (
             "another command",
             CHANGED_OBJECT.as_slice(),
             11,
             Sync,
-            Plain,
+            "Plain",
+        ),
+        (
+            "of no rows",
+            CHANGED_OBJECT.as_slice(),
+            10,
+            Of(all),
+            "0|NULL|NULL|NULL|;0",
+        ),
+        ("no groups", CHANGED_OBJECT.as_slice(), 10, By(1, all), "0"),
+        ("of all rows", GROUPS.as_slice(), 11, Of(all), "5|15|1|7|;5"),
+        ("of texts", GROUPS.as_slice(), 11, Of(names), "a|b|;5"),
+        ("no b", GROUPS.as_slice(), 11, Named(2, Op::Ne, "b"), "2|;5"),
+        (
+            "groups",
+            GROUPS.as_slice(),
+            11,
+            By(2, grouped),
+            "NULL|1|7|7|;a|2|6|5|;b|2|2|2|;5",
+        ),
+        (
+            "groups by numbers",
+            GROUPS.as_slice(),
+            11,
+            By(1, &[Count]),
+            "NULL|1|;1|1|;2|1|;5|1|;7|1|;5",
+        ),
+        (
+            "up",
+            ENDS_OF_RANGES.as_slice(),
+            11,
+            Of(&[Sum(1)]),
+            "18446744073709551614|;2",
+        ),
+        (
+            "down",
+            ENDS_OF_RANGES.as_slice(),
+            12,
+            Of(&[Sum(1)]),
+            "-18446744073709551616|;2",
         ),
     ];
     for (name, log, q, ask, want) in cases {
-        assert_eq!(rt; tell(rt.alloc(), log, ask, q), Ok(want), "{name}");
+        let told = tell(rt.alloc(), log, ask, q)?;
+        assert_eq!(rt; told.as_str(), want, "{name}");
     }
+    Ok(())
 }

@@ -57,6 +57,13 @@ impl PlainTable {
         self.extents
     }
 
+    /// Whether it is in-memory.
+    pub fn flag(&self) -> bool
+        ensures { result ≡ self.now.flag }
+    {
+        self.flag
+    }
+
     /// The kinds of its columns.
     pub fn kinds(&self) -> &KindList
         ensures { result.now ≡ self.now.kinds }
