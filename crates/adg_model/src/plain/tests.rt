@@ -23,26 +23,34 @@ enum Step {
     Undo(u64, u8),
     Commit(u64),
     Abort(u64),
-    Pair(u64, u8, Option<i64>, Option<&'static str>),
+    Pair(u64, u8, Option<i64>, Option<u8>),
     Widen,
     Plain,
     Drop,
 }
 
+/// Aggregates of an object whose columns are a number and a name.
+#[derive(Clone, Copy)]
+enum Sums {
+    Count,
+    Numbers,
+    Names,
+    SumOfNames,
+    Grouped,
+}
+
 /// What is asked: the rows, aggregates of all rows or of those that meet a condition, groups by a
-/// column, or another command.
+/// column, or another command. A name is one letter.
 #[derive(Clone, Copy)]
 enum Ask {
     Rows,
-    Of(&'static [Aggregate]),
+    Of(Sums),
     Where(u8, Op, i64),
-    Named(u8, Op, &'static str),
-    By(u8, &'static [Aggregate]),
+    Named(u8, Op, u8),
+    By(u8, Sums),
     Populate,
     Sync,
 }
-
-const COUNT: Ask = Ask::Of(&[Aggregate::Count]);
 
 /// Two transactions set one row, and the one that wrote first commits last.
 const COMMIT_POSITION: [(u64, Step); 7] = [
@@ -128,10 +136,10 @@ const GROUPS: [(u64, Step); 9] = [
     (10, Step::Create),
     (10, Step::Widen),
     (11, Step::Begin(7)),
-    (11, Step::Pair(7, 0, Some(1), Some("a"))),
-    (11, Step::Pair(7, 1, Some(2), Some("b"))),
-    (11, Step::Pair(7, 2, Some(5), Some("a"))),
-    (11, Step::Pair(7, 3, None, Some("b"))),
+    (11, Step::Pair(7, 0, Some(1), Some(b'a'))),
+    (11, Step::Pair(7, 1, Some(2), Some(b'b'))),
+    (11, Step::Pair(7, 2, Some(5), Some(b'a'))),
+    (11, Step::Pair(7, 3, None, Some(b'b'))),
     (11, Step::Pair(7, 4, Some(7), None)),
     (11, Step::Commit(7)),
 ];
@@ -149,14 +157,14 @@ const ENDS_OF_RANGES: [(u64, Step); 9] = [
     (12, Step::Commit(8)),
 ];
 
-fn named(alloc: Global, name: &str) -> Result<Value, Memory> {
-    match Text::new(alloc, name.as_bytes()) {
+fn named(alloc: Global, letter: u8) -> Result<Value, Memory> {
+    match Text::new(alloc, &[letter]) {
         Ok(text) => Ok(Value::Text(text)),
         Err(_) => Err(Memory),
     }
 }
 
-fn row_of(alloc: Global, number: Option<i64>, name: Option<&str>) -> Result<Row, Memory> {
+fn row_of(alloc: Global, number: Option<i64>, name: Option<u8>) -> Result<Row, Memory> {
     let mut values = Vec::new(alloc);
     match number {
         Some(number) => values.push(Value::Int(number))?,
@@ -253,8 +261,17 @@ fn condition(column: u8, op: Op, literal: Value) -> Condition {
     }
 }
 
-fn aggregates_of(alloc: Global, aggregates: &[Aggregate]) -> Result<What, Memory> {
-    Ok(What::Aggregates(List::from_slice(alloc, aggregates)?))
+fn aggregates_of(alloc: Global, sums: Sums) -> Result<What, Memory> {
+    use Aggregate::{Count, Max, Min, Sum};
+
+    let aggregates = match sums {
+        Sums::Count => vec![in alloc; Count]?,
+        Sums::Numbers => vec![in alloc; Count, Sum(1), Min(1), Max(1)]?,
+        Sums::Names => vec![in alloc; Min(2), Max(2)]?,
+        Sums::SumOfNames => vec![in alloc; Sum(2)]?,
+        Sums::Grouped => vec![in alloc; Count, Sum(1), Max(1)]?,
+    };
+    Ok(What::Aggregates(List::from_vec(aggregates)))
 }
 
 fn command_of(alloc: Global, ask: Ask, obj: Obj) -> Result<Command, Memory> {
@@ -262,7 +279,7 @@ fn command_of(alloc: Global, ask: Ask, obj: Obj) -> Result<Command, Memory> {
     let mut group = None;
     let what = match ask {
         Ask::Rows => What::All,
-        Ask::Of(aggregates) => aggregates_of(alloc, aggregates)?,
+        Ask::Of(sums) => aggregates_of(alloc, sums)?,
         Ask::Where(column, op, number) => {
             conditions.push(condition(column, op, Value::Int(number)))?;
             What::All
@@ -270,11 +287,11 @@ fn command_of(alloc: Global, ask: Ask, obj: Obj) -> Result<Command, Memory> {
         Ask::Named(column, op, name) => {
             conditions.push(condition(1, Op::Gt, Value::Int(0)))?;
             conditions.push(condition(column, op, named(alloc, name)?))?;
-            aggregates_of(alloc, &[Aggregate::Count])?
+            aggregates_of(alloc, Sums::Count)?
         }
-        Ask::By(column, aggregates) => {
+        Ask::By(column, sums) => {
             group = Some(column);
-            aggregates_of(alloc, aggregates)?
+            aggregates_of(alloc, sums)?
         }
         Ask::Populate => return Ok(Command::Populate { obj }),
         Ask::Sync => return Ok(Command::Sync),
@@ -330,17 +347,20 @@ fn tell(alloc: Global, steps: &[(u64, Step)], ask: Ask, q: u64) -> Result<String
 
 #[test]
 fn answers_the_worked_logs(rt: HostRuntime) -> Result<(), Fail> {
-    use Aggregate::{Count, Max, Min, Sum};
     use Ask::{By, Named, Of, Populate, Rows, Sync, Where};
+    use Sums::{Count, Grouped, Names, Numbers, SumOfNames};
 
-    let all: &[Aggregate] = &[Count, Sum(1), Min(1), Max(1)];
-    let names: &[Aggregate] = &[Min(2), Max(2)];
-    let grouped: &[Aggregate] = &[Count, Sum(1), Max(1)];
     let cases = [
         ("commit 8", COMMIT_POSITION.as_slice(), 14, Rows, "2|;1"),
         ("commit 7", COMMIT_POSITION.as_slice(), 15, Rows, "1|;1"),
         ("undone", UNDONE.as_slice(), 11, Rows, "0"),
-        ("not committed", NOT_COMMITTED.as_slice(), 11, COUNT, "0|;0"),
+        (
+            "not committed",
+            NOT_COMMITTED.as_slice(),
+            11,
+            Of(Count),
+            "0|;0",
+        ),
         ("equal SCNs", EQUAL_SCNS.as_slice(), 20, Rows, "2|;1"),
         ("before all", TWO_THREADS.as_slice(), 9, Rows, "NoTable"),
         ("at 10", TWO_THREADS.as_slice(), 10, Rows, "0"),
@@ -389,7 +409,7 @@ fn answers_the_worked_logs(rt: HostRuntime) -> Result<(), Fail> {
             Where(1, Op::Ge, 2),
             "2|;2",
         ),
-        ("deleted", CHANGED_OBJECT.as_slice(), 13, COUNT, "1|;1"),
+        ("deleted", CHANGED_OBJECT.as_slice(), 13, Of(Count), "1|;1"),
         (
             "no column",
             CHANGED_OBJECT.as_slice(),
@@ -401,14 +421,14 @@ fn answers_the_worked_logs(rt: HostRuntime) -> Result<(), Fail> {
             "no text",
             CHANGED_OBJECT.as_slice(),
             13,
-            Named(1, Op::Eq, "a"),
+            Named(1, Op::Eq, b'a'),
             "WrongType",
         ),
         (
             "a sum of texts",
             CHANGED_OBJECT.as_slice(),
             14,
-            Of(&[Sum(2)]),
+            Of(SumOfNames),
             "WrongType",
         ),
         (
@@ -422,7 +442,7 @@ fn answers_the_worked_logs(rt: HostRuntime) -> Result<(), Fail> {
             "no value there",
             CHANGED_OBJECT.as_slice(),
             14,
-            Named(2, Op::Ne, "a"),
+            Named(2, Op::Ne, b'a'),
             "0|;1",
         ),
         (
@@ -458,40 +478,58 @@ fn answers_the_worked_logs(rt: HostRuntime) -> Result<(), Fail> {
             "of no rows",
             CHANGED_OBJECT.as_slice(),
             10,
-            Of(all),
+            Of(Numbers),
             "0|NULL|NULL|NULL|;0",
         ),
-        ("no groups", CHANGED_OBJECT.as_slice(), 10, By(1, all), "0"),
-        ("of all rows", GROUPS.as_slice(), 11, Of(all), "5|15|1|7|;5"),
-        ("of texts", GROUPS.as_slice(), 11, Of(names), "a|b|;5"),
-        ("no b", GROUPS.as_slice(), 11, Named(2, Op::Ne, "b"), "2|;5"),
+        (
+            "no groups",
+            CHANGED_OBJECT.as_slice(),
+            10,
+            By(1, Numbers),
+            "0",
+        ),
+        (
+            "of all rows",
+            GROUPS.as_slice(),
+            11,
+            Of(Numbers),
+            "5|15|1|7|;5",
+        ),
+        ("of texts", GROUPS.as_slice(), 11, Of(Names), "a|b|;5"),
+        (
+            "no b",
+            GROUPS.as_slice(),
+            11,
+            Named(2, Op::Ne, b'b'),
+            "2|;5",
+        ),
         (
             "groups",
             GROUPS.as_slice(),
             11,
-            By(2, grouped),
+            By(2, Grouped),
             "NULL|1|7|7|;a|2|6|5|;b|2|2|2|;5",
         ),
         (
             "groups by numbers",
             GROUPS.as_slice(),
             11,
-            By(1, &[Count]),
+            By(1, Count),
             "NULL|1|;1|1|;2|1|;5|1|;7|1|;5",
         ),
         (
             "up",
             ENDS_OF_RANGES.as_slice(),
             11,
-            Of(&[Sum(1)]),
-            "18446744073709551614|;2",
+            Of(Numbers),
+            "2|18446744073709551614|9223372036854775807|9223372036854775807|;2",
         ),
         (
             "down",
             ENDS_OF_RANGES.as_slice(),
             12,
-            Of(&[Sum(1)]),
-            "-18446744073709551616|;2",
+            Of(Numbers),
+            "2|-18446744073709551616|-9223372036854775808|-9223372036854775808|;2",
         ),
     ];
     for (name, log, q, ask, want) in cases {
