@@ -8,6 +8,7 @@ use crate::unread::Unspelled;
 use adg_base::definition::{MOST_COLUMNS, MOST_EXTENTS};
 use adg_base::number::{Obj, Txn};
 use adg_base::value::ColKind;
+use byteorder::{BigEndian, ByteOrder};
 
 /// A transaction, and the address of its change.
 #[derive(Clone, Copy, Debug, PartialEq, Eq)]
@@ -29,28 +30,26 @@ pub fn u8_at(bytes: &[u8]) -> Result<(u8, &[u8]), Unspelled>
 }
 
 /// The number in the two bytes at the front and the bytes after it; `Unspelled` where there are fewer.
+#[tactic(auto, using(adg_model::proofs::BigEndian::number_of_2))]
 pub fn u16_at(bytes: &[u8]) -> Result<(u16, &[u8]), Unspelled>
     ensures { Finds (λ x. (x.0, x.1.now)) result (number_at w16 bytes.now) }
 {
     if bytes.len() < 2 {
         return Err(Unspelled);
     }
-    let (front, rest) = bytes.split_at(2);
-    Ok((u16::from_be_bytes([front[0], front[1]]), rest))
+    Ok((BigEndian::read_u16(bytes), &bytes[2..]))
 }
 
-/// The number in the eight bytes at the front and the bytes after it; `Unspelled` where there are fewer.
+/// The number in the eight bytes at the front and the bytes after it; `Unspelled` where there are
+/// fewer.
+#[tactic(auto, using(adg_model::proofs::BigEndian::number_of_8))]
 pub fn u64_at(bytes: &[u8]) -> Result<(u64, &[u8]), Unspelled>
     ensures { Finds (λ x. (x.0, x.1.now)) result (number_at w64 bytes.now) }
 {
     if bytes.len() < 8 {
         return Err(Unspelled);
     }
-    let (front, rest) = bytes.split_at(8);
-    let number = u64::from_be_bytes([
-        front[0], front[1], front[2], front[3], front[4], front[5], front[6], front[7],
-    ]);
-    Ok((number, rest))
+    Ok((BigEndian::read_u64(bytes), &bytes[8..]))
 }
 
 /// The flag at the front and the bytes after it; `Unspelled` where no byte is there that is 0 or 1.

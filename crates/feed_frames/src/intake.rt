@@ -5,6 +5,7 @@ ghost use Rattle.feed_frames.specs.Intake.{Took, TookOnto, Misses, HasCauseIn};
 use adg_io::outside::Source;
 use adg_io::transfer::{Ending, fill};
 use adg_model::fault::FeedKind;
+use byteorder::{BigEndian, ByteOrder};
 
 /// The most bytes that are asked for in one piece.
 const MOST_PIECE: usize = 65_536;
@@ -54,7 +55,7 @@ pub fn take_length<R: Source>(source: &mut R, taken: &mut u64) -> Result<u32, Fe
 {
     let mut piece = [0; 4];
     take_piece(source, taken, &mut piece)?;
-    Ok(u32::from_be_bytes(piece))
+    Ok(BigEndian::read_u32(&piece))
 }
 
 /// Takes a payload of so many bytes, piece by piece, and appends it.
