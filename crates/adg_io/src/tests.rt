@@ -3,7 +3,7 @@ use crate::memory_sink::MemSink;
 use crate::memory_source::MemSource;
 use crate::outside::{Failed, Gate, Sink, Source};
 use crate::standard::{StdSink, StdSource};
-use crate::transfer::{Ending, Filled, Written, fill, write_whole};
+use crate::transfer::{FillEnd, Filled, Written, fill, write_whole};
 use adg_base::memory::Memory;
 use std::alloc::Global;
 use std::io;
@@ -103,11 +103,11 @@ fn calls_in_memory(rt: HostRuntime) -> Result<(), Fail> {
 #[test]
 fn pieces_in_memory(rt: HostRuntime) -> Result<(), Fail> {
     let table = [
-        ("abcde", 2, [0, 0], 4, Ending::Whole, "abcd", "e", "wxyz"),
-        ("abcd", 9, [2, 3], 4, Ending::Whole, "abcd", "", "wxyz"),
-        ("abc", 2, [0, 0], 3, Ending::AtEnd, "abc.", "", "wxy"),
-        ("abcde", 1, [3, 0], 2, Ending::Failed, "ab..", "cde", "wx"),
-        ("", 1, [1, 0], 0, Ending::Failed, "....", "", ""),
+        ("abcde", 2, [0, 0], 4, FillEnd::Whole, "abcd", "e", "wxyz"),
+        ("abcd", 9, [2, 3], 4, FillEnd::Whole, "abcd", "", "wxyz"),
+        ("abc", 2, [0, 0], 3, FillEnd::AtEnd, "abc.", "", "wxy"),
+        ("abcde", 1, [3, 0], 2, FillEnd::Failed, "ab..", "cde", "wx"),
+        ("", 1, [1, 0], 0, FillEnd::Failed, "....", "", ""),
     ];
     for (text, most, failing, count, ending, filled, left, held) in table {
         let mut source = source_of(rt.alloc(), text, most, failing)?;
@@ -117,7 +117,7 @@ fn pieces_in_memory(rt: HostRuntime) -> Result<(), Fail> {
         assert_eq!(rt; source.left(), left.as_bytes());
 
         let mut sink = sink_of(rt.alloc(), text.len(), most, failing)?;
-        let whole = ending == Ending::Whole;
+        let whole = ending == FillEnd::Whole;
         assert_eq!(rt; write_whole(&mut sink, b"wxyz"), Written { count, whole });
         assert_eq!(rt; sink.held(), held.as_bytes());
     }
@@ -144,7 +144,7 @@ fn pieces_over_std(rt: HostRuntime) -> Result<(), Fail> {
         filled,
         Filled {
             count: 4,
-            ending: Ending::Whole
+            ending: FillEnd::Whole
         }
     );
     assert_eq!(rt; piece.as_slice(), b"abcd".as_slice());
@@ -153,7 +153,7 @@ fn pieces_over_std(rt: HostRuntime) -> Result<(), Fail> {
         filled,
         Filled {
             count: 1,
-            ending: Ending::AtEnd
+            ending: FillEnd::AtEnd
         }
     );
     let filled = fill(&mut StdSource::new(Interrupted), &mut piece);
@@ -161,7 +161,7 @@ fn pieces_over_std(rt: HostRuntime) -> Result<(), Fail> {
         filled,
         Filled {
             count: 0,
-            ending: Ending::Failed
+            ending: FillEnd::Failed
         }
     );
 

@@ -3,7 +3,7 @@ ghost use Rattle.std.specs.Int.{w32, to_be_bytes};
 ghost use Rattle.feed_frames.specs.Intake.{Took, TookOnto, Misses, HasCauseIn};
 
 use adg_io::outside::Source;
-use adg_io::transfer::{Ending, fill};
+use adg_io::transfer::{FillEnd, fill};
 use adg_model::fault::FeedKind;
 use byteorder::{BigEndian, ByteOrder};
 
@@ -26,9 +26,9 @@ pub fn take_piece<R: Source>(
     let filled = fill(source, piece);
     *taken += filled.count as u64;
     match filled.ending {
-        Ending::Whole => Ok(()),
-        Ending::AtEnd => Err(FeedKind::Truncated),
-        Ending::Failed => Err(FeedKind::Read),
+        FillEnd::Whole => Ok(()),
+        FillEnd::AtEnd => Err(FeedKind::Truncated),
+        FillEnd::Failed => Err(FeedKind::Read),
     }
 }
 
@@ -96,8 +96,6 @@ fn take_onto<R: Source>(
     ensures cause { HasCauseIn result (R.faults source.old) (R.faults source.new) }
 {
     let start = into.len();
-    if into.resize(start + wanted, 0).is_err() {
-        return Err(FeedKind::Memory);
-    }
+    into.resize(start + wanted, 0)?;
     take_piece(source, taken, &mut into[start..])
 }
