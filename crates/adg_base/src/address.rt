@@ -7,6 +7,9 @@ use crate::number::Obj;
 use std::alloc::Global;
 use std::marker::Model;
 
+/// How many slots a block has.
+pub const SLOTS: u8 = 64;
+
 /// Where a row lies: its object, a block of the object and one of the 64 slots of the block. It is
 /// printed as `tN.block.slot`.
 #[derive(Clone, Copy, Debug, PartialEq, Eq, Hash)]
@@ -38,7 +41,7 @@ impl Addr {
         ensures range { IsSome result ↔ (slot < 64) }
         ensures value { IfSome result (λ addr. addr ≡ record { obj = obj; block = block; slot = slot }) }
     {
-        if slot < 64 {
+        if slot < SLOTS {
             Some(Addr { obj, block, slot })
         } else {
             None

@@ -1,8 +1,11 @@
 use crate::number::Obj;
 use crate::value::ColKind;
 
-/// How many columns an object has at most.
+/// The most columns of an object.
 pub const MOST_COLUMNS: usize = 16;
+
+/// The most extents of an object.
+pub const MOST_EXTENTS: u16 = 256;
 
 /// The definition of an object: its extents, whether it is in-memory, how many columns it has and
 /// their kinds. Kinds from `width` on are `Int` and mean nothing.
@@ -12,5 +15,5 @@ pub struct Definition {
     pub extents: u16,
     pub flag: bool,
     pub width: u8,
-    pub kinds: [ColKind; 16],
+    pub kinds: [ColKind; MOST_COLUMNS],
 }

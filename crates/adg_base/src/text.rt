@@ -7,6 +7,9 @@ use crate::memory::Memory;
 use std::alloc::Global;
 use std::marker::Model;
 
+/// The most bytes of a text.
+pub const MOST_TEXT_BYTES: usize = 64;
+
 /// A text value: at most 64 printable ASCII bytes without `'` and `|`.
 #[derive(Debug, Drop)]
 pub struct Text {
@@ -50,7 +53,7 @@ impl Text {
     pub fn is_text(bytes: &[u8]) -> bool
         ensures { result ≡ is_text bytes.now }
     {
-        bytes.len() <= 64 && are_allowed(bytes)
+        bytes.len() <= MOST_TEXT_BYTES && are_allowed(bytes)
     }
 
     /// The text of these bytes.

@@ -27,7 +27,7 @@ impl Calls {
     /// Counts a call, and says whether it is to fail.
     pub fn next_fails(&mut self) -> bool
         ensures fails { IsTrue result ↔ IsToFail self.old.failing.items self.old.made }
-        ensures counted { self.new ≡ record self.old { made = one_more self.old.made } }
+        ensures made { self.new ≡ record self.old { made = one_more self.old.made } }
     {
         let fails = is_to_fail(self.failing.as_slice(), self.made);
         self.made = self.made.saturating_add(1);

@@ -3,11 +3,11 @@ use crate::memory_sink::MemSink;
 use crate::memory_source::MemSource;
 use crate::outside::{Failed, Gate, Sink, Source};
 use crate::standard::{StdSink, StdSource};
-use crate::transfer::{Ending, Filled, Written, fill, write_whole};
+use crate::transfer::{FillEnd, Filled, Written, fill, write_whole};
 use adg_base::memory::Memory;
 use std::alloc::Global;
 use std::io;
-use std::io::{ErrorKind, Read};
+use std::io::{ErrorKind, Read, Write};
 use std::test::Fail;
 
 /// What a read or a write answered.
@@ -103,11 +103,11 @@ fn calls_in_memory(rt: HostRuntime) -> Result<(), Fail> {
 #[test]
 fn pieces_in_memory(rt: HostRuntime) -> Result<(), Fail> {
     let table = [
-        ("abcde", 2, [0, 0], 4, Ending::Whole, "abcd", "e", "wxyz"),
-        ("abcd", 9, [2, 3], 4, Ending::Whole, "abcd", "", "wxyz"),
-        ("abc", 2, [0, 0], 3, Ending::AtEnd, "abc.", "", "wxy"),
-        ("abcde", 1, [3, 0], 2, Ending::Failed, "ab..", "cde", "wx"),
-        ("", 1, [1, 0], 0, Ending::Failed, "....", "", ""),
+        ("abcde", 2, [0, 0], 4, FillEnd::Whole, "abcd", "e", "wxyz"),
+        ("abcd", 9, [2, 3], 4, FillEnd::Whole, "abcd", "", "wxyz"),
+        ("abc", 2, [0, 0], 3, FillEnd::AtEnd, "abc.", "", "wxy"),
+        ("abcde", 1, [3, 0], 2, FillEnd::Failed, "ab..", "cde", "wx"),
+        ("", 1, [1, 0], 0, FillEnd::Failed, "....", "", ""),
     ];
     for (text, most, failing, count, ending, filled, left, held) in table {
         let mut source = source_of(rt.alloc(), text, most, failing)?;
@@ -117,51 +117,125 @@ fn pieces_in_memory(rt: HostRuntime) -> Result<(), Fail> {
         assert_eq!(rt; source.left(), left.as_bytes());
 
         let mut sink = sink_of(rt.alloc(), text.len(), most, failing)?;
-        let whole = ending == Ending::Whole;
+        let whole = ending == FillEnd::Whole;
         assert_eq!(rt; write_whole(&mut sink, b"wxyz"), Written { count, whole });
         assert_eq!(rt; sink.held(), held.as_bytes());
     }
     Ok(())
 }
 
-/// A reader whose reads are all interrupted.
+/// A reader and writer that gives and takes one byte a call, and fails at one of its calls.
 #[derive(Drop)]
-struct Interrupted;
+struct Once {
+    calls: u32,
+    failing: u32,
+    kind: ErrorKind,
+}
 
-impl Read for Interrupted {
-    fn read(&mut self, _into: &mut [u8]) -> io::Result<usize> {
-        Err(ErrorKind::Interrupted.into())
+impl Once {
+    fn call(&mut self) -> io::Result<usize> {
+        self.calls = self.calls.saturating_add(1);
+        if self.calls == self.failing {
+            Err(self.kind.into())
+        } else {
+            Ok(1)
+        }
     }
 }
 
-// Readers and writers of std: an interrupted read and a full writer are faults.
+impl Read for Once {
+    fn read(&mut self, into: &mut [u8]) -> io::Result<usize> {
+        let count = self.call()?;
+        Ok(count.min(into.len()))
+    }
+}
+
+impl Write for Once {
+    fn write(&mut self, piece: &[u8]) -> io::Result<usize> {
+        let count = self.call()?;
+        Ok(count.min(piece.len()))
+    }
+
+    fn flush(&mut self) -> io::Result<()> {
+        Ok(())
+    }
+}
+
+// A failed call is told, is not tried again, and the call after it goes on.
 #[test]
-fn pieces_over_std(rt: HostRuntime) -> Result<(), Fail> {
+fn a_fault_of_std_is_told_once(rt: HostRuntime) {
+    for kind in [
+        ErrorKind::Interrupted,
+        ErrorKind::WouldBlock,
+        ErrorKind::Other,
+    ] {
+        let mut once = Once {
+            calls: 0,
+            failing: 3,
+            kind,
+        };
+        let mut source = StdSource::new(&mut once);
+        let read = four_reads(&mut source);
+        assert_eq!(rt; read, [Ok(1), Ok(1), FAILED, Ok(1)]);
+        assert_eq!(rt; once.calls, 4);
+
+        let mut once = Once {
+            calls: 0,
+            failing: 3,
+            kind,
+        };
+        let mut sink = StdSink::new(&mut once);
+        let wrote = four_writes(&mut sink);
+        assert_eq!(rt; wrote, [Ok(1), Ok(1), FAILED, Ok(1)]);
+        assert_eq!(rt; once.calls, 4);
+
+        let mut once = Once {
+            calls: 0,
+            failing: 3,
+            kind,
+        };
+        let mut piece = [0; 4];
+        let filled = fill(&mut StdSource::new(&mut once), &mut piece);
+        let ending = FillEnd::Failed;
+        assert_eq!(rt; filled, Filled { count: 2, ending });
+        assert_eq!(rt; once.calls, 3);
+
+        let mut once = Once {
+            calls: 0,
+            failing: 3,
+            kind,
+        };
+        let written = write_whole(&mut StdSink::new(&mut once), b"abcd");
+        assert_eq!(rt;
+            written,
+            Written {
+                count: 2,
+                whole: false
+            }
+        );
+        assert_eq!(rt; once.calls, 3);
+    }
+}
+
+// Readers and writers of std that hold bytes: a writer that is full is a fault.
+#[test]
+fn pieces_over_std(rt: HostRuntime) {
     let mut piece = [0; 4];
     let mut source = StdSource::new(b"abcde".as_slice());
-    let filled = fill(&mut source, &mut piece);
+    let (whole, at_end) = (FillEnd::Whole, FillEnd::AtEnd);
     assert_eq!(rt;
-        filled,
+        fill(&mut source, &mut piece),
         Filled {
             count: 4,
-            ending: Ending::Whole
+            ending: whole
         }
     );
     assert_eq!(rt; piece.as_slice(), b"abcd".as_slice());
-    let filled = fill(&mut source, &mut piece);
     assert_eq!(rt;
-        filled,
+        fill(&mut source, &mut piece),
         Filled {
             count: 1,
-            ending: Ending::AtEnd
-        }
-    );
-    let filled = fill(&mut StdSource::new(Interrupted), &mut piece);
-    assert_eq!(rt;
-        filled,
-        Filled {
-            count: 0,
-            ending: Ending::Failed
+            ending: at_end
         }
     );
 
@@ -185,5 +259,4 @@ fn pieces_over_std(rt: HostRuntime) -> Result<(), Fail> {
         }
     );
     OpenGate.pass(&rt, 0, 0);
-    Ok(())
 }

@@ -6,7 +6,7 @@ use crate::outside::{Failed, Sink, Source};
 
 /// How the filling of a piece ended.
 #[derive(Clone, Copy, Debug, PartialEq, Eq)]
-pub enum Ending {
+pub enum FillEnd {
     /// The piece is full.
     Whole,
     /// The source ended before.
@@ -21,7 +21,7 @@ pub struct Filled {
     /// The bytes at the front of the piece that come from the source.
     pub count: usize,
     /// Why no more.
-    pub ending: Ending,
+    pub ending: FillEnd,
 }
 
 /// How many bytes of a piece were written, and whether that is all.
@@ -38,11 +38,11 @@ pub struct Written {
 pub fn fill<R: Source>(source: &mut R, into: &mut [u8]) -> Filled
     ensures count { result.count ≤ length into.new }
     ensures bytes { Consumes (R.left source.old) (R.left source.new) (take result.count into.new) }
-    ensures whole { (result.ending ≡ Ending.Whole) ↔ (result.count ≡ length into.new) }
-    ensures at_end { result.ending ≡ Ending.AtEnd → IsAtEnd (R.left source.new) }
-    ensures failed { result.ending ≡ Ending.Failed →
+    ensures whole { (result.ending ≡ FillEnd.Whole) ↔ (result.count ≡ length into.new) }
+    ensures at_end { result.ending ≡ FillEnd.AtEnd → IsAtEnd (R.left source.new) }
+    ensures failed { result.ending ≡ FillEnd.Failed →
         Rose (R.faults source.old) (R.faults source.new) }
-    ensures honest { result.ending ≢ Ending.Failed →
+    ensures honest { result.ending ≢ FillEnd.Failed →
         R.faults source.new ≡ R.faults source.old }
     ensures later { R.faults source.old ≤ R.faults source.new }
     ensures empty { length into.old ≡ 0 → source.new ≡ source.old }
@@ -51,17 +51,17 @@ pub fn fill<R: Source>(source: &mut R, into: &mut [u8]) -> Filled
     while count < into.len() {
         match source.read(&mut into[count..]) {
             Ok(0) => {
-                let ending = Ending::AtEnd;
+                let ending = FillEnd::AtEnd;
                 return Filled { count, ending };
             }
             Ok(given) => count += given,
             Err(Failed) => {
-                let ending = Ending::Failed;
+                let ending = FillEnd::Failed;
                 return Filled { count, ending };
             }
         }
     }
-    let ending = Ending::Whole;
+    let ending = FillEnd::Whole;
     Filled { count, ending }
 }
 

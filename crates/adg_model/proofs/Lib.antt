@@ -1,3 +1,4 @@
+pub mod BigEndian
 pub mod LogLaws
 pub mod RowLaws
 pub mod TranscriptLaws

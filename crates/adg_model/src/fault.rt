@@ -1,3 +1,6 @@
+use adg_base::memory::Memory;
+use std::alloc::AllocError;
+
 /// What is wrong with the bytes of a feed. `Read` and `Memory` are no faults of the bytes: the
 /// source failed, or memory was wanting.
 #[derive(Clone, Copy, Debug, PartialEq, Eq)]
@@ -82,4 +85,26 @@ pub struct RedoFault {
     pub thread: u8,
     pub number: u64,
     pub kind: RedoKind,
+}
+
+impl From<Memory> for FeedKind {
+    ghost use Rattle.std.specs.Prelude.{◌≡◌};
+    ghost use Rattle.adg_model.specs.declared.fault.FeedKind.TheVariants as kind;
+
+    ghost from_gives = { λ _ e. e ≡ kind.Memory };
+
+    fn from(_error: Memory) -> FeedKind {
+        FeedKind::Memory
+    }
+}
+
+impl From<AllocError> for FeedKind {
+    ghost use Rattle.std.specs.Prelude.{◌≡◌};
+    ghost use Rattle.adg_model.specs.declared.fault.FeedKind.TheVariants as kind;
+
+    ghost from_gives = { λ _ e. e ≡ kind.Memory };
+
+    fn from(_error: AllocError) -> FeedKind {
+        FeedKind::Memory
+    }
 }

@@ -7,5 +7,6 @@ pub mod fault;
 pub mod laws;
 pub mod mined;
 pub mod plain;
+pub mod record;
 #[cfg(test)]
 mod tests;

@@ -24,19 +24,19 @@ pub vectors_unique : (n : ℕ) (a b : List Vector) → AreVectors n a → AreVec
 vectors_unique n a b p q len e = (vectors_apart n a b [] [] p q len (ap (λ (x : List ℕ). x ++ []) e)).0
 
 -- vectors at the front of the spelling of others are the first of them
-record Front (n : ℕ) (front all : List Vector) (rest : List ℕ) : Type 0 where
+record Prefix (n : ℕ) (front all : List Vector) (rest : List ℕ) : Type 0 where
   others : List Vector
   valid : AreVectors n others
   len : length front + length others ≡ length all
   spelled : rest ≡ vectors_bytes others
 
-front_of : (n : ℕ) (front all : List Vector) (rest : List ℕ) → AreVectors n front → AreVectors n all → length front ≤ length all → vectors_bytes front ++ rest ≡ vectors_bytes all → Front n front all rest
-front_of n [] all rest p q le e = record { others = all; valid = q; len = omega arith; spelled = e }
-front_of n (v ∷ front) [] rest p q le e = absurd (omega arith)
-front_of n (v ∷ front) (w ∷ all) rest p q le e =
+prefix_of : (n : ℕ) (front all : List Vector) (rest : List ℕ) → AreVectors n front → AreVectors n all → length front ≤ length all → vectors_bytes front ++ rest ≡ vectors_bytes all → Prefix n front all rest
+prefix_of n [] all rest p q le e = record { others = all; valid = q; len = omega arith; spelled = e }
+prefix_of n (v ∷ front) [] rest p q le e = absurd (omega arith)
+prefix_of n (v ∷ front) (w ∷ all) rest p q le e =
     let left : vectors_bytes (v ∷ front) ++ rest ≡ vector_bytes v ++ (vectors_bytes front ++ rest) = append_assoc (vector_bytes v) (vectors_bytes front) rest in
     let both = vector_apart n v w (vectors_bytes front ++ rest) (vectors_bytes all) p.0 q.0 (sym left ∙ e) in
-    let deep = front_of n front all rest p.1 q.1 (omega arith) both.1 in
+    let deep = prefix_of n front all rest p.1 q.1 (omega arith) both.1 in
     record { others = deep.others; valid = deep.valid; len = let l = deep.len in omega arith; spelled = deep.spelled }
 
 no_others : (n : ℕ) (others : List Vector) (rest : List ℕ) → AreVectors n others → rest ≡ vectors_bytes others → (1 ≤ length others → (vector : Vector) (more : List ℕ) → IsVector n vector → rest ≡ vector_bytes vector ++ more → ⊥) → (length others ≡ 0 → 1 ≤ length rest) → ⊥
@@ -51,7 +51,7 @@ pub bad_excludes : (count index : ℕ) (body : List ℕ) (vectors : List Vector)
 bad_excludes count index body vectors bad valid len e =
     let place = bad.place in
     let within = bad.within in
-    let front = front_of count bad.before vectors bad.rest bad.readable valid (omega arith) (sym bad.spelled ∙ e) in
+    let front = prefix_of count bad.before vectors bad.rest bad.readable valid (omega arith) (sym bad.spelled ∙ e) in
     let total = front.len in
     no_others count front.others bad.rest front.valid front.spelled (λ some. bad.none (omega arith)) (λ none. bad.remains (omega arith))
 

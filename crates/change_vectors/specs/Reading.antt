@@ -9,6 +9,7 @@ use Rattle.adg_base.specs.declared.value.Value.TheVariants.{Null, Int, Text}
 use Rattle.adg_base.specs.declared.vector.Vector.{Vector}
 use Rattle.adg_base.specs.declared.vector.Vector.TheVariants.{Begin, Put, Delete, Undo, Commit, Abort, Create, DropObject, AddColumn, NoInMemory, EndThread}
 use Rattle.change_vectors.specs.declared.unread.Unread.{Unread}
+use Rattle.change_vectors.specs.declared.unread.Unspelled.{Unspelled}
 use Rattle.change_vectors.specs.declared.unread.Unread.TheVariants.{Memory, Bad}
 use Rattle.change_vectors.specs.declared.field.Change.{Change}
 
@@ -25,6 +26,11 @@ Fails Bad read = read ≡ None
 abbrev pub Gives : {X Y : Type 0} → (X → Y) → Result X Unread → Option Y → Type 0
 Gives view (Ok x) read = read ≡ Some (view x)
 Gives view (Err e) read = Fails e read
+
+-- What a function that takes no memory returned, seen by view, is what reading gives.
+abbrev pub Finds : {X Y : Type 0} → (X → Y) → Result X Unspelled → Option Y → Type 0
+Finds view (Ok x) read = read ≡ Some (view x)
+Finds view (Err e) read = read ≡ None
 
 -- A byte, and a number of some bytes.
 abbrev pub byte_at : List ℕ → Option (ℕ × List ℕ)

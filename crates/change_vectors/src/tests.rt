@@ -5,95 +5,365 @@ use adg_base::list::List;
 use adg_base::number::{Obj, Scn, Txn};
 use adg_base::row::Row;
 use adg_base::text::Text;
-use adg_base::value::Value;
+use adg_base::value::{ColKind, KindList, Value};
 use adg_base::vector::{RedoRecord, Vector, VectorList};
+use std::alloc::Global;
 use std::test::Fail;
 
-/// A record that creates an object, and one that begins a transaction, puts a row and commits.
-const CREATE: [u8; 21] = [
-    0x00, 0x15, 0x00, 0x00, 0x00, 0x00, 0x00, 0x00, 0x00, 0x0a, 0x01, 0x07, 0x00, 0x01, 0x00, 0x01,
-    0x01, 0x01, 0x01, 0x00, 0x15,
+/// Two records, one that creates an object, and one that begins a transaction, puts a row and
+/// commits: their bodies without length, SCN and number.
+const CREATE: &[u8] = b"\x07\0\x01\0\x01\x01\x01\x01";
+
+const CHANGE: &[u8] =
+    b"\x01\0\0\0\0\0\0\0\x07\x02\0\0\0\0\0\0\0\x07\0\x01\0\0\0\x01\x01\0\0\0\0\0\0\0\x05\x05\0\0\0\0\0\0\0\x07\x01";
+
+/// Bodies that are read and written again: each vector and kind of value, and each limit from
+/// inside. A name, the number of vectors, and their bytes.
+const GOOD: [(&str, u8, &[u8]); 26] = [
+    ("a record that creates", 1, CREATE),
+    ("a record of three vectors", 3, CHANGE),
+    ("no vector", 0, b""),
+    ("a begin", 1, b"\x01\0\0\0\0\0\0\0\x01"),
+    (
+        "the last transaction",
+        1,
+        b"\x01\xff\xff\xff\xff\xff\xff\xff\xff",
+    ),
+    ("a delete", 1, b"\x03\0\0\0\0\0\0\0\x07\0\x01\x02\x03\x3f"),
+    (
+        "the last address",
+        1,
+        b"\x03\0\0\0\0\0\0\0\x07\xff\xff\xff\xff\xff",
+    ),
+    ("an undo", 1, b"\x04\0\0\0\0\0\0\0\x07\0\x01\x02\x03\x3f"),
+    ("a commit", 1, b"\x05\0\0\0\0\0\0\0\x07\0"),
+    ("a commit with its flag", 1, b"\x05\0\0\0\0\0\0\0\x07\x01"),
+    ("an abort", 1, b"\x06\0\0\0\0\0\0\0\x07"),
+    (
+        "an object that is not in-memory",
+        1,
+        b"\x07\0\x01\0\x01\0\x01\x02",
+    ),
+    (
+        "256 extents and 16 columns",
+        1,
+        b"\x07\xff\xff\x01\0\x01\x10\x01\x02\x01\x02\x01\x02\x01\x02\x01\x02\x01\x02\x01\x02\x01\x02",
+    ),
+    ("a drop", 1, b"\x08\x01\0"),
+    ("a column of integers more", 1, b"\x09\0\x01\x01"),
+    ("a column of texts more", 1, b"\x09\0\x01\x02"),
+    ("an object out of memory", 1, b"\x0a\0\x01"),
+    ("the end of a thread", 1, b"\x0b"),
+    ("a Null", 1, b"\x02\0\0\0\0\0\0\0\x07\0\x01\0\0\0\x01\0"),
+    (
+        "the least integer",
+        1,
+        b"\x02\0\0\0\0\0\0\0\x07\0\x01\0\0\0\x01\x01\x80\0\0\0\0\0\0\0",
+    ),
+    (
+        "the integer -1",
+        1,
+        b"\x02\0\0\0\0\0\0\0\x07\0\x01\0\0\0\x01\x01\xff\xff\xff\xff\xff\xff\xff\xff",
+    ),
+    (
+        "the greatest integer",
+        1,
+        b"\x02\0\0\0\0\0\0\0\x07\0\x01\0\0\0\x01\x01\x7f\xff\xff\xff\xff\xff\xff\xff",
+    ),
+    (
+        "a text of no byte",
+        1,
+        b"\x02\0\0\0\0\0\0\0\x07\0\x01\0\0\0\x01\x02\0",
+    ),
+    (
+        "a text of 64 bytes",
+        1,
+        b"\x02\0\0\0\0\0\0\0\x07\0\x01\0\0\0\x01\x02\x40 ~xxxxxxxxxxxxxxxxxxxxxxxxxxxxxxxxxxxxxxxxxxxxxxxxxxxxxxxxxxxxxx",
+    ),
+    (
+        "a row of 16 columns",
+        1,
+        b"\x02\0\0\0\0\0\0\0\x07\0\x01\0\0\0\x10\0\0\0\0\0\0\0\0\0\0\0\0\0\0\0\0",
+    ),
+    (
+        "four kinds in a record",
+        4,
+        b"\x06\0\0\0\0\0\0\0\x01\x08\0\x02\x09\0\x03\x02\x0a\0\x04",
+    ),
 ];
 
-const CHANGE: [u8; 56] = [
-    0x00, 0x38, 0x00, 0x00, 0x00, 0x00, 0x00, 0x00, 0x00, 0x0b, 0x03, 0x01, 0x00, 0x00, 0x00, 0x00,
-    0x00, 0x00, 0x00, 0x07, 0x02, 0x00, 0x00, 0x00, 0x00, 0x00, 0x00, 0x00, 0x07, 0x00, 0x01, 0x00,
-    0x00, 0x00, 0x01, 0x01, 0x00, 0x00, 0x00, 0x00, 0x00, 0x00, 0x00, 0x05, 0x05, 0x00, 0x00, 0x00,
-    0x00, 0x00, 0x00, 0x00, 0x07, 0x01, 0x00, 0x38,
+/// Bodies with a vector that cannot be read: a name, the number of vectors, the bytes, and the
+/// index of that vector.
+const BAD: [(&str, u8, &[u8], u16); 28] = [
+    ("bytes behind no vector", 0, b"\x0b", 1),
+    ("bytes that remain", 1, b"\x08\0\x01\x0b", 2),
+    ("a vector too few", 2, b"\x08\0\x01", 2),
+    ("cut short", 2, b"\x08\0\x01\x08\0", 2),
+    ("a begin that is cut short", 1, b"\x01\0\0\0\0\0\0\x07", 1),
+    ("tag 0", 1, b"\0", 1),
+    ("tag 12, at the second vector", 2, b"\x08\0\x01\x0c", 2),
+    ("transaction 0", 1, b"\x01\0\0\0\0\0\0\0\0", 1),
+    (
+        "transaction 0 of a put",
+        1,
+        b"\x02\0\0\0\0\0\0\0\0\0\x01\0\0\0\x01\0",
+        1,
+    ),
+    ("object 0", 1, b"\x08\0\0", 1),
+    (
+        "object 0 of a delete",
+        1,
+        b"\x03\0\0\0\0\0\0\0\x07\0\0\0\0\0",
+        1,
+    ),
+    (
+        "the end of a thread beside another",
+        2,
+        b"\x0b\x08\0\x01",
+        1,
+    ),
+    ("no extents", 1, b"\x07\0\x01\0\0\0\x01\x01", 1),
+    ("257 extents", 1, b"\x07\0\x01\x01\x01\0\x01\x01", 1),
+    ("a flag of 2", 1, b"\x07\0\x01\0\x01\x02\x01\x01", 1),
+    (
+        "a commit with a flag of 2",
+        1,
+        b"\x05\0\0\0\0\0\0\0\x07\x02",
+        1,
+    ),
+    ("no column", 1, b"\x07\0\x01\0\x01\x01\0", 1),
+    (
+        "17 columns",
+        1,
+        b"\x07\0\x01\0\x01\x01\x11\x01\x01\x01\x01\x01\x01\x01\x01\x01\x01\x01\x01\x01\x01\x01\x01\x01",
+        1,
+    ),
+    ("a kind of 0", 1, b"\x09\0\x01\0", 1),
+    ("a kind of 3", 1, b"\x07\0\x01\0\x01\x01\x01\x03", 1),
+    (
+        "a row of no column",
+        1,
+        b"\x02\0\0\0\0\0\0\0\x07\0\x01\0\0\0\0",
+        1,
+    ),
+    (
+        "a row of 17 columns",
+        1,
+        b"\x02\0\0\0\0\0\0\0\x07\0\x01\0\0\0\x11\0\0\0\0\0\0\0\0\0\0\0\0\0\0\0\0\0",
+        1,
+    ),
+    (
+        "a value of kind 3",
+        1,
+        b"\x02\0\0\0\0\0\0\0\x07\0\x01\0\0\0\x01\x03",
+        1,
+    ),
+    (
+        "an integer that is cut short",
+        1,
+        b"\x02\0\0\0\0\0\0\0\x07\0\x01\0\0\0\x01\x01\0\0\0\0\0\0\0",
+        1,
+    ),
+    (
+        "a text that is cut short",
+        1,
+        b"\x02\0\0\0\0\0\0\0\x07\0\x01\0\0\0\x01\x02\x02a",
+        1,
+    ),
+    (
+        "a text of 65 bytes",
+        1,
+        b"\x02\0\0\0\0\0\0\0\x07\0\x01\0\0\0\x01\x02\x41xxxxxxxxxxxxxxxxxxxxxxxxxxxxxxxxxxxxxxxxxxxxxxxxxxxxxxxxxxxxxxxxx",
+        1,
+    ),
+    (
+        "a quotation mark in a text",
+        1,
+        b"\x02\0\0\0\0\0\0\0\x07\0\x01\0\0\0\x01\x02\x01'",
+        1,
+    ),
+    (
+        "a bar in a text",
+        1,
+        b"\x02\0\0\0\0\0\0\0\x07\0\x01\0\0\0\x01\x02\x01|",
+        1,
+    ),
 ];
+
+/// The record of this body at the greatest SCN.
+fn framed(alloc: Global, count: u8, body: &[u8]) -> Result<Vec<u8>, Fail> {
+    let len = u16::try_from(body.len().saturating_add(13))?;
+    let mut bytes = Vec::from_slice(alloc, &len.to_be_bytes())?;
+    bytes.extend_from_slice(b"\0\0\xff\xff\xff\xff\xff\xff".as_slice())?;
+    bytes.push(count)?;
+    bytes.extend_from_slice(body)?;
+    bytes.extend_from_slice(&len.to_be_bytes())?;
+    Ok(bytes)
+}
 
 #[test]
-fn two_records(rt: HostRuntime) -> Result<(), Fail> {
+fn reads_and_writes_each_vector(rt: HostRuntime) -> Result<(), Fail> {
     let alloc = rt.alloc();
-    let records = [(CREATE.as_slice(), 10, 1), (CHANGE.as_slice(), 11, 3)];
-    for (bytes, scn, count) in records {
-        assert!(rt; bytes.len() > 13);
-        let body = &bytes[11..bytes.len() - 2];
-        let vectors = read_vectors(alloc, body, count)?;
-        assert_eq!(rt; vectors.len(), count as usize);
-        let scn = Scn::new(scn).ok_or("an SCN")?;
+    let scn = Scn::new(281_474_976_710_655).ok_or("an SCN")?;
+    for (name, count, body) in GOOD {
+        let vectors = match read_vectors(alloc, body, count) {
+            Ok(vectors) => vectors,
+            Err(_) => List::new(alloc),
+        };
+        assert_eq!(rt; vectors.len(), count as usize, "{name}");
         let written = write_record(alloc, &RedoRecord { scn, vectors })?;
-        assert_eq!(rt; written.as_slice(), bytes);
+        let wanted = framed(alloc, count, body)?;
+        assert_eq!(rt; written.as_slice(), wanted.as_slice(), "{name}");
     }
     Ok(())
 }
 
 #[test]
-fn refusals(rt: HostRuntime) -> Result<(), Fail> {
-    let alloc = rt.alloc();
-    let bodies = [
-        // no such tag, at the second vector
-        ([0x08, 0, 1, 0x0c].as_slice(), 2, 2),
-        // bytes that remain
-        ([0x08, 0, 1, 0x0b].as_slice(), 1, 2),
-        // cut short
-        ([0x08, 0, 1, 0x08, 0].as_slice(), 2, 2),
-        // an object 0
-        ([0x08, 0, 0].as_slice(), 1, 1),
-        // the end of a thread beside another vector
-        ([0x0b, 0x08, 0, 1].as_slice(), 2, 1),
-        // extents 0 and 257, a flag of 2, no column, a kind of 3
-        ([0x07, 0, 1, 0, 0, 0, 1, 1].as_slice(), 1, 1),
-        ([0x07, 0, 1, 1, 1, 0, 1, 1].as_slice(), 1, 1),
-        ([0x07, 0, 1, 0, 1, 2, 1, 1].as_slice(), 1, 1),
-        ([0x07, 0, 1, 0, 1, 1, 0].as_slice(), 1, 1),
-        ([0x07, 0, 1, 0, 1, 1, 1, 3].as_slice(), 1, 1),
-    ];
-    for (body, count, index) in bodies {
-        let read = read_vectors(alloc, body, count);
-        assert!(rt; matches!(read, Err(VectorsRefused::BadVector { index: i }) if i == index));
+fn names_the_vector_that_cannot_be_read(rt: HostRuntime) {
+    for (name, count, body, index) in BAD {
+        let refused = match read_vectors(rt.alloc(), body, count) {
+            Ok(_) => None,
+            Err(refused) => Some(refused),
+        };
+        assert_eq!(rt;
+            refused,
+            Some(VectorsRefused::BadVector { index }),
+            "{name}"
+        );
     }
-    Ok(())
 }
 
-fn puts(rt: &HostRuntime, count: u8) -> Result<VectorList, Fail> {
-    let alloc = rt.alloc();
+/// A put of a row of so many texts of so many bytes.
+fn put_of(alloc: Global, width: usize, len: usize) -> Result<Vector, Fail> {
+    let bytes = [b'x'; 64];
+    let mut values = Vec::new(alloc);
+    for _ in 0..width {
+        values.push(Value::Text(Text::new(alloc, &bytes[..len.min(64)])?))?;
+    }
+    Ok(Vector::Put {
+        txn: Txn::new(1).ok_or("a transaction")?,
+        obj: Obj::new(1).ok_or("an object")?,
+        block: 0,
+        slot: 0,
+        row: Row::from_vec(alloc, values)?,
+    })
+}
+
+fn create_of(alloc: Global, extents: u16, width: usize) -> Result<Vector, Fail> {
+    let mut columns: KindList = List::new(alloc);
+    for _ in 0..width {
+        columns.push(ColKind::Int)?;
+    }
+    Ok(Vector::Create {
+        obj: Obj::new(1).ok_or("an object")?,
+        extents,
+        flag: false,
+        columns,
+    })
+}
+
+/// So many puts of 16 texts of 64 bytes, and these vectors.
+fn puts_and(alloc: Global, count: u16, others: Vec<Vector>) -> Result<VectorList, Fail> {
     let mut vectors = List::new(alloc);
     for _ in 0..count {
-        let mut values = Vec::new(alloc);
-        for _ in 0..16 {
-            values.push(Value::Text(Text::new(alloc, &[b'x'; 64])?))?;
-        }
-        vectors.push(Vector::Put {
-            txn: Txn::new(1).ok_or("a transaction")?,
-            obj: Obj::new(1).ok_or("an object")?,
-            block: 0,
-            slot: 0,
-            row: Row::from_vec(alloc, values)?,
-        })?;
+        vectors.push(put_of(alloc, 16, 64)?)?;
+    }
+    for vector in others {
+        vectors.push(vector)?;
     }
     Ok(vectors)
 }
 
+/// So many vectors of one byte, which no record has beside another.
+fn ends(alloc: Global, count: u16) -> Result<VectorList, Fail> {
+    let mut vectors = List::new(alloc);
+    for _ in 0..count {
+        vectors.push(Vector::EndThread)?;
+    }
+    Ok(vectors)
+}
+
+/// How long the record is that is written.
+fn write(alloc: Global, scn: u64, vectors: VectorList) -> Result<usize, WriteRefused> {
+    match Scn::new(scn) {
+        Some(scn) => Ok(write_record(alloc, &RedoRecord { scn, vectors })?.len()),
+        None => Err(WriteRefused::BadForm),
+    }
+}
+
 #[test]
-fn longest(rt: HostRuntime) -> Result<(), Fail> {
+fn writes_what_has_a_spelling(rt: HostRuntime) -> Result<(), Fail> {
     let alloc = rt.alloc();
-    let scn = Scn::new(1).ok_or("an SCN")?;
-    let vectors = puts(&rt, 61)?;
-    let written = write_record(alloc, &RedoRecord { scn, vectors })?;
-    assert_eq!(rt; written.len(), 65344);
-    let vectors = puts(&rt, 62)?;
-    let refused = write_record(alloc, &RedoRecord { scn, vectors });
-    assert!(rt; matches!(refused, Err(WriteRefused::TooLong)));
+    let none = || Vec::new(alloc);
+    let too_long = Err(WriteRefused::TooLong);
+    let bad_form = Err(WriteRefused::BadForm);
+    for (name, scn, vectors, want) in vec![in alloc;
+        ("61 puts", 1, puts_and(alloc, 61, none())?, Ok(65_344)),
+        ("62 puts", 1, puts_and(alloc, 62, none())?, too_long),
+        (
+            "65,535 bytes",
+            1,
+            puts_and(
+                alloc,
+                61,
+                vec![in alloc; put_of(alloc, 2, 64)?, put_of(alloc, 1, 27)?]?
+            )?,
+            Ok(65_535)
+        ),
+        (
+            "65,536 bytes",
+            1,
+            puts_and(
+                alloc,
+                61,
+                vec![in alloc; put_of(alloc, 2, 64)?, put_of(alloc, 1, 28)?]?
+            )?,
+            too_long
+        ),
+        ("SCN 0", 0, ends(alloc, 1)?, bad_form),
+        ("one end", 1, ends(alloc, 1)?, Ok(14)),
+        ("two ends", 1, ends(alloc, 2)?, bad_form),
+        ("255 ends", 1, ends(alloc, 255)?, bad_form),
+        ("256 vectors", 1, ends(alloc, 256)?, too_long),
+        ("256 vectors at SCN 0", 0, ends(alloc, 256)?, too_long),
+        (
+            "a row of no column",
+            1,
+            puts_and(alloc, 0, vec![in alloc; put_of(alloc, 0, 0)?]?)?,
+            bad_form
+        ),
+        (
+            "a row of 17 columns",
+            1,
+            puts_and(alloc, 0, vec![in alloc; put_of(alloc, 17, 1)?]?)?,
+            bad_form
+        ),
+        (
+            "no extents",
+            1,
+            puts_and(alloc, 0, vec![in alloc; create_of(alloc, 0, 1)?]?)?,
+            bad_form
+        ),
+        (
+            "257 extents",
+            1,
+            puts_and(alloc, 0, vec![in alloc; create_of(alloc, 257, 1)?]?)?,
+            bad_form
+        ),
+        (
+            "no column",
+            1,
+            puts_and(alloc, 0, vec![in alloc; create_of(alloc, 1, 0)?]?)?,
+            bad_form
+        ),
+        (
+            "17 columns",
+            1,
+            puts_and(alloc, 0, vec![in alloc; create_of(alloc, 1, 17)?]?)?,
+            bad_form
+        ),
+    ]? {
+        assert_eq!(rt; write(alloc, scn, vectors), want, "{name}");
+    }
     Ok(())
 }

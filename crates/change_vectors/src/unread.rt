@@ -1,12 +1,27 @@
 use std::alloc::{AllocError, AllocFailed};
 
-/// Why something is not read: memory was wanting, or no bytes that spell it are there.
+/// No bytes that spell what is asked for stand at the front.
+#[derive(Clone, Copy, Debug, PartialEq, Eq)]
+pub struct Unspelled;
+
+/// Why something is not read that takes memory.
 #[derive(Clone, Copy, Debug, PartialEq, Eq)]
 pub enum Unread {
     /// Want of memory.
     Memory,
-    /// No bytes that spell it are there.
+    /// No bytes that spell it stand at the front.
     Bad,
+}
+
+impl From<Unspelled> for Unread {
+    ghost use Rattle.std.specs.Prelude.{◌≡◌};
+    ghost use Rattle.change_vectors.specs.declared.unread.Unread.TheVariants.{Bad};
+
+    ghost from_gives = { λ _ e. e ≡ Bad };
+
+    fn from(_error: Unspelled) -> Unread {
+        Unread::Bad
+    }
 }
 
 impl From<AllocError> for Unread {

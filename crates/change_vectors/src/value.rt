@@ -1,17 +1,17 @@
 //! The values of a row and the kinds of an object's columns.
 
 ghost use Rattle.std.specs.Prelude.{◌≡◌, ◌∷◌, ◌++◌};
-ghost use Rattle.change_vectors.specs.Reading.{Gives, int_at, text_at, value_at, row_at, columns_at, kind_at, many_at};
+ghost use Rattle.change_vectors.specs.Reading.{Finds, Gives, int_at, text_at, value_at, row_at, columns_at, kind_at, many_at};
 
 use crate::field::{kind_of, u8_at, u64_at, width_of};
-use crate::unread::Unread;
+use crate::unread::{Unread, Unspelled};
 use adg_base::text::{Text, TextRefused};
 use adg_base::value::{ColKind, Value};
 use std::alloc::Global;
 
 #[tactic(auto, unfolding(crate::specs::Reading::int_at))]
-fn int_of(bytes: &[u8]) -> Result<(Value, &[u8]), Unread>
-    ensures { Gives (λ x. (x.0, x.1.now)) result (int_at bytes.now) }
+fn int_of(bytes: &[u8]) -> Result<(Value, &[u8]), Unspelled>
+    ensures { Finds (λ x. (x.0, x.1.now)) result (int_at bytes.now) }
 {
     let (number, rest) = u64_at(bytes)?;
     Ok((Value::Int(number.cast_signed()), rest))
@@ -41,7 +41,7 @@ fn value_of(alloc: Global, bytes: &[u8]) -> Result<(Value, &[u8]), Unread>
     let (tag, rest) = u8_at(bytes)?;
     match tag {
         0 => Ok((Value::Null, rest)),
-        1 => int_of(rest),
+        1 => Ok(int_of(rest)?),
         2 => text_of(alloc, rest),
         _ => Err(Unread::Bad),
     }

@@ -9,17 +9,34 @@ ghost use Rattle.change_vectors.specs.Room.{IsTooLong, framed};
 
 use crate::refused::WriteRefused;
 use crate::size::{room_after_vectors, text_len};
+use adg_base::definition::{MOST_COLUMNS, MOST_EXTENTS};
 use adg_base::list::{Bytes, List};
 use adg_base::number::{Obj, Scn, Txn};
 use adg_base::value::{ColKind, Value};
 use adg_base::vector::{RedoRecord, Vector};
+use adg_model::record::{MOST_RECORD_BYTES, RECORD_OVERHEAD, tag};
+use byteorder::{BigEndian, ByteOrder};
 use std::alloc::{AllocError, Global};
 
-/// How many bytes a record has beside the spellings of its vectors.
-const FRAME: usize = 13;
+/// Appends a number in two bytes.
+fn put_u16(out: &mut Vec<u8>, number: u16) -> Result<(), AllocError>
+    ensures { OnOk result (out.new.items ≡ out.old.items ++ to_be_bytes w16 number) }
+{
+    let mut bytes = [0; 2];
+    BigEndian::write_u16(&mut bytes, number);
+    out.extend_from_slice(&bytes)?;
+    Ok(())
+}
 
-/// How many bytes a record has at most.
-const MOST_BYTES: usize = 65535;
+/// Appends a number in eight bytes.
+fn put_u64(out: &mut Vec<u8>, number: u64) -> Result<(), AllocError>
+    ensures { OnOk result (out.new.items ≡ out.old.items ++ to_be_bytes w64 number) }
+{
+    let mut bytes = [0; 8];
+    BigEndian::write_u64(&mut bytes, number);
+    out.extend_from_slice(&bytes)?;
+    Ok(())
+}
 
 fn put_value(out: &mut Vec<u8>, value: &Value) -> Result<(), AllocError>
     ensures written { OnOk result (out.new.items ≡ out.old.items ++ value_bytes value.now) }
@@ -29,7 +46,7 @@ fn put_value(out: &mut Vec<u8>, value: &Value) -> Result<(), AllocError>
         Value::Null => out.push(0)?,
         Value::Int(number) => {
             out.push(1)?;
-            out.extend_from_slice(&number.to_be_bytes())?;
+            put_u64(out, number.cast_unsigned())?;
         }
         Value::Text(text) => {
             out.push(2)?;
@@ -57,7 +74,7 @@ fn put_row(out: &mut Vec<u8>, row: &[Value]) -> Result<(), WriteRefused>
     ensures fits { result ≢ Err WriteRefused.TooLong }
 {
     let width = row.len();
-    if width == 0 || width > 16 {
+    if width == 0 || width > MOST_COLUMNS {
         return Err(WriteRefused::BadForm);
     }
     out.push(width as u8)?;
@@ -83,38 +100,38 @@ fn put_kinds(out: &mut Vec<u8>, kinds: &[ColKind]) -> Result<(), AllocError>
     Ok(())
 }
 
-fn put_txn(out: &mut Vec<u8>, tag: u8, txn: Txn) -> Result<(), AllocError>
-    ensures written { OnOk result (out.new.items ≡ out.old.items ++ tag ∷ txn_bytes txn) }
+fn put_txn(out: &mut Vec<u8>, first: u8, txn: Txn) -> Result<(), AllocError>
+    ensures written { OnOk result (out.new.items ≡ out.old.items ++ first ∷ txn_bytes txn) }
     ensures good { IsTxn txn }
 {
-    out.push(tag)?;
-    out.extend_from_slice(&txn.get().to_be_bytes())?;
+    out.push(first)?;
+    put_u64(out, txn.get())?;
     Ok(())
 }
 
-fn put_obj(out: &mut Vec<u8>, tag: u8, obj: Obj) -> Result<(), AllocError>
-    ensures written { OnOk result (out.new.items ≡ out.old.items ++ tag ∷ obj_bytes obj) }
+fn put_obj(out: &mut Vec<u8>, first: u8, obj: Obj) -> Result<(), AllocError>
+    ensures written { OnOk result (out.new.items ≡ out.old.items ++ first ∷ obj_bytes obj) }
     ensures good { IsObj obj }
 {
-    out.push(tag)?;
-    out.extend_from_slice(&obj.get().to_be_bytes())?;
+    out.push(first)?;
+    put_u16(out, obj.get())?;
     Ok(())
 }
 
 fn put_change(
     out: &mut Vec<u8>,
-    tag: u8,
+    first: u8,
     txn: Txn,
     obj: Obj,
     block: u16,
     slot: u8,
 ) -> Result<(), AllocError>
-    ensures written { OnOk result (out.new.items ≡ out.old.items ++ tag ∷ change_bytes txn obj block slot) }
+    ensures written { OnOk result (out.new.items ≡ out.old.items ++ first ∷ change_bytes txn obj block slot) }
     ensures good { OnOk result (IsChange txn obj block slot) }
 {
-    put_txn(out, tag, txn)?;
-    out.extend_from_slice(&obj.get().to_be_bytes())?;
-    out.extend_from_slice(&block.to_be_bytes())?;
+    put_txn(out, first, txn)?;
+    put_u16(out, obj.get())?;
+    put_u16(out, block)?;
     out.push(slot)?;
     Ok(())
 }
@@ -132,11 +149,11 @@ fn put_create(
     ensures fits { result ≢ Err WriteRefused.TooLong }
 {
     let width = columns.len();
-    if extents == 0 || extents > 256 || width == 0 || width > 16 {
+    if extents == 0 || extents > MOST_EXTENTS || width == 0 || width > MOST_COLUMNS {
         return Err(WriteRefused::BadForm);
     }
-    put_obj(out, 0x07, obj)?;
-    out.extend_from_slice(&extents.to_be_bytes())?;
+    put_obj(out, tag::CREATE, obj)?;
+    put_u16(out, extents)?;
     out.push(flag as u8)?;
     out.push(width as u8)?;
     put_kinds(out, columns)?;
@@ -150,7 +167,7 @@ fn put_vector(out: &mut Vec<u8>, count: usize, vector: &Vector) -> Result<(), Wr
     ensures fits { result ≢ Err WriteRefused.TooLong }
 {
     match vector {
-        Vector::Begin { txn } => put_txn(out, 0x01, *txn)?,
+        Vector::Begin { txn } => put_txn(out, tag::BEGIN, *txn)?,
         Vector::Put {
             txn,
             obj,
@@ -158,7 +175,7 @@ fn put_vector(out: &mut Vec<u8>, count: usize, vector: &Vector) -> Result<(), Wr
             slot,
             row,
         } => {
-            put_change(out, 0x02, *txn, *obj, *block, *slot)?;
+            put_change(out, tag::PUT, *txn, *obj, *block, *slot)?;
             put_row(out, row.as_slice())?;
         }
         Vector::Delete {
@@ -166,35 +183,35 @@ fn put_vector(out: &mut Vec<u8>, count: usize, vector: &Vector) -> Result<(), Wr
             obj,
             block,
             slot,
-        } => put_change(out, 0x03, *txn, *obj, *block, *slot)?,
+        } => put_change(out, tag::DELETE, *txn, *obj, *block, *slot)?,
         Vector::Undo {
             txn,
             obj,
             block,
             slot,
-        } => put_change(out, 0x04, *txn, *obj, *block, *slot)?,
+        } => put_change(out, tag::UNDO, *txn, *obj, *block, *slot)?,
         Vector::Commit { txn, flag } => {
-            put_txn(out, 0x05, *txn)?;
+            put_txn(out, tag::COMMIT, *txn)?;
             out.push(*flag as u8)?;
         }
-        Vector::Abort { txn } => put_txn(out, 0x06, *txn)?,
+        Vector::Abort { txn } => put_txn(out, tag::ABORT, *txn)?,
         Vector::Create {
             obj,
             extents,
             flag,
             columns,
         } => put_create(out, *obj, *extents, *flag, columns.as_slice())?,
-        Vector::DropObject { obj } => put_obj(out, 0x08, *obj)?,
+        Vector::DropObject { obj } => put_obj(out, tag::DROP_OBJECT, *obj)?,
         Vector::AddColumn { obj, kind } => {
-            put_obj(out, 0x09, *obj)?;
+            put_obj(out, tag::ADD_COLUMN, *obj)?;
             out.push(kind_code(*kind))?;
         }
-        Vector::NoInMemory { obj } => put_obj(out, 0x0a, *obj)?,
+        Vector::NoInMemory { obj } => put_obj(out, tag::NO_IN_MEMORY, *obj)?,
         Vector::EndThread => {
             if count != 1 {
                 return Err(WriteRefused::BadForm);
             }
-            out.push(0x0b)?;
+            out.push(tag::END_THREAD)?;
         }
     }
     Ok(())
@@ -215,8 +232,8 @@ fn put_vectors(out: &mut Vec<u8>, vectors: &[Vector]) -> Result<(), WriteRefused
 fn put_head(out: &mut Vec<u8>, len: u16, scn: Scn, count: u8) -> Result<(), AllocError>
     ensures { OnOk result (out.new.items ≡ out.old.items ++ (to_be_bytes w16 len ++ to_be_bytes w64 scn ++ count ∷ [])) }
 {
-    out.extend_from_slice(&len.to_be_bytes())?;
-    out.extend_from_slice(&scn.get().to_be_bytes())?;
+    put_u16(out, len)?;
+    put_u64(out, scn.get())?;
     out.push(count)?;
     Ok(())
 }
@@ -231,7 +248,7 @@ fn put_record(out: &mut Vec<u8>, len: u16, scn: Scn, vectors: &[Vector]) -> Resu
 {
     put_head(out, len, scn, vectors.len() as u8)?;
     put_vectors(out, vectors)?;
-    out.extend_from_slice(&len.to_be_bytes())?;
+    put_u16(out, len)?;
     Ok(())
 }
 
@@ -247,10 +264,10 @@ pub fn write_record(alloc: Global, redo: &RedoRecord) -> Result<Bytes, WriteRefu
     if vectors.len() > 255 {
         return Err(WriteRefused::TooLong);
     }
-    let Some(left) = room_after_vectors(MOST_BYTES - FRAME, vectors) else {
+    let Some(left) = room_after_vectors(MOST_RECORD_BYTES - RECORD_OVERHEAD, vectors) else {
         return Err(WriteRefused::TooLong);
     };
-    let len = MOST_BYTES - left;
+    let len = MOST_RECORD_BYTES - left;
     if redo.scn.get() == 0 {
         return Err(WriteRefused::BadForm);
     }

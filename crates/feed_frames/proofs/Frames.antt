@@ -9,7 +9,7 @@ use Rattle.feed_frames.specs.declared.head.Head.{Head}
 use Rattle.feed_frames.specs.Intake.{Took}
 use Rattle.feed_frames.specs.Counts.{standing_of, tag_byte}
 use Rattle.feed_frames.specs.Frames.{StopsAfter, TookItem, Holds, head_bytes}
-use Rattle.feed_frames.proofs.Taking.{took_both}
+use Rattle.feed_frames.proofs.IntakeLaws.{took_both}
 use Rattle.feed_frames.proofs.Faults.{first_none, fails_none}
 
 pub stops_later : {a b d : Option (List ℕ)} {m n l : ℕ} {k : FeedKind} (front : List ℕ) (check : List ℕ → Option FeedKind) → Took a b m n front → StopsAfter front check b d n l k → StopsAfter [] check a d m l k
@@ -21,7 +21,7 @@ item_spelled item tag len e w =
     ap (λ (t : ℕ). t ∷ to_be_bytes w32 len ++ payload_of item) (sym e) ∙ ap (λ (n : ℕ). tag_of item ∷ to_be_bytes w32 n ++ payload_of item) (sym w)
 
 pub item_later : {a b d : Option (List ℕ)} {m n l : ℕ} (old new : Incoming) (before : List Item) (head : Head) → Took a b m n (head_bytes head) → TookItem old new before head b d n l
-    → (item : Item) × Took a d m l (item_bytes item) × IsItem (standing_of old.counts.progress) before item × Holds new (before ++ item ∷ [])
+    → (item : Item) × Took a d m l (item_bytes item) × IsItem (standing_of old.counts.standing) before item × Holds new (before ++ item ∷ [])
 item_later {a} {b} {d} {m} {n} {l} old new before head took t =
     (t.item, subst (Took a d m l) (item_spelled t.item (tag_byte head.tag) head.len t.tag t.whole) (took_both a b d m n l (head_bytes head) (payload_of t.item) took t.took), t.follows, t.holds)
 

@@ -1,6 +1,5 @@
 -- A frame that is an item of its delivery, and items one after the other.
-use Rattle.std.proofs.Common.{◌≡◌, ℕ, ◌+◌, ◌<◌, ◌≤◌, Bool, false, not, nat_lt, nat_le, List, [], ◌∷◌, ◌++◌, length, Option, None, refl, sym, ap, ◌∙◌, arith, append_assoc, append-nil}
-use Rattle.std.specs.Prelude.{Result, Ok, Err, OnOk, is_err}
+use Rattle.std.proofs.Common.{◌≡◌, ℕ, ◌+◌, ◌<◌, ◌≤◌, false, not, nat_lt, nat_le, List, [], ◌∷◌, ◌++◌, length, Option, None, refl, sym, ap, ◌∙◌, arith, append_assoc, append-nil}
 use Rattle.std.specs.List.{flat_map, filter_map}
 use Rattle.std.proofs.lemmas.Grind.{common_steps, flat_map-append}
 use Rattle.std.proofs.lemmas.List.Elements.{filter_map-append}
@@ -69,8 +68,3 @@ bytes_push items item = flat_map-append item_bytes items (item ∷ []) ∙ ap (�
 
 pub bytes_none : (before : List Item) (item : Item) (list : List ℕ) → list ≡ flat_map schedule_of before → schedule_of item ≡ [] → list ≡ flat_map schedule_of (before ++ item ∷ [])
 bytes_none before item list e none = sym (append-nil list) ∙ ap (λ l. list ++ l) (sym none) ∙ gives_bytes before item list e
-
--- what a call that did not fail did
-pub did : {T E P : Type 0} (r : Result T E) (b : Bool) → b ≡ is_err r → b ≡ false → OnOk r P → P
-did (Ok x) b e f h = h
-did (Err x) b e f h = cc

@@ -1,7 +1,7 @@
 pub mod Faults
-pub mod FirstFrame
+pub mod OpeningLaws
 pub mod Frames
 pub mod Items
 pub mod Stages
-pub mod Taking
-pub mod Told
+pub mod IntakeLaws
+pub mod ReaderLaws

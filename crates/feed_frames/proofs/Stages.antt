@@ -10,7 +10,7 @@ use Rattle.adg_model.specs.declared.fault.FeedKind.TheVariants as kind
 use Rattle.feed_frames.specs.Intake.{Took, Misses}
 use Rattle.feed_frames.specs.Counts.{IsShown}
 use Rattle.feed_frames.specs.Frames.{StopsAfter}
-use Rattle.feed_frames.proofs.Taking.{took_none, took_both}
+use Rattle.feed_frames.proofs.IntakeLaws.{took_none, took_both}
 use Rattle.feed_frames.proofs.Faults.{missing_stops, shown_stops, no_bytes, short_fault, head_fault, none_first, then_none, but_last}
 
 pub no_length : (bytes : List ℕ) → length bytes < 1 → bytes ≡ []

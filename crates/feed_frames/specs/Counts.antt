@@ -3,7 +3,7 @@ use Rattle.std.specs.Prelude.{◌≡◌, ℕ, ◌+◌, ◌<◌, ◌≤◌, IsTru
 use Rattle.adg_model.specs.Feed.{Item, Standing, payload_total, redo_total, asked, is_empty, is_counted, most_payload, most_redo, most_deliveries, redo_tag, command_tag, schedule_tag, end_tag, stop_tag}
 use Rattle.adg_model.specs.declared.fault.FeedKind.{FeedKind}
 use Rattle.adg_model.specs.declared.fault.FeedKind.TheVariants.{Truncated, Read, Memory}
-use Rattle.feed_frames.specs.declared.counts.Progress.{Progress}
+use Rattle.feed_frames.specs.declared.counts.Standing.{Standing as KeptStanding}
 use Rattle.feed_frames.specs.declared.counts.Counts.{Counts}
 use Rattle.feed_frames.specs.declared.tag.Tag.{Tag}
 use Rattle.feed_frames.specs.declared.tag.Tag.TheVariants.{Redo, Command, Schedule, End, Stop}
@@ -15,7 +15,7 @@ tag_byte Schedule = schedule_tag
 tag_byte End = end_tag
 tag_byte Stop = stop_tag
 
-abbrev pub standing_of : Progress → Standing
+abbrev pub standing_of : KeptStanding → Standing
 standing_of p = record { threads = p.threads; sessions = p.sessions; redo = p.redo; ends = p.ends }
 
 -- the counts are those of the items
@@ -36,8 +36,8 @@ IsShown _ = Unit {0}
 pub record HasRoom (counts : Counts) (tag : Tag) (len : ℕ) : Type 0 where
   pub some : IsTrue (is_counted (tag_byte tag)) → 1 ≤ len
   pub payload : IsTrue (is_counted (tag_byte tag)) → counts.payload + len ≤ most_payload
-  pub redo : tag ≡ Redo → counts.progress.redo + counts.redo + len ≤ most_redo
-  pub ends : tag ≡ End → counts.progress.ends < most_deliveries
+  pub redo : tag ≡ Redo → counts.standing.redo + counts.redo + len ≤ most_redo
+  pub ends : tag ≡ End → counts.standing.ends < most_deliveries
 
 -- a check finds the fault that a definition says
 abbrev pub Judges : {X : Type 0} → Result X FeedKind → Option FeedKind → Type 0

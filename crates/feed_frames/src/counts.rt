@@ -23,7 +23,7 @@ pub const MOST_ACTORS: u8 = 8;
 /// What the frames before a delivery decide: the header's numbers, how many redo bytes there were,
 /// and how many deliveries ended.
 #[derive(Clone, Copy, Debug)]
-pub struct Progress {
+pub struct Standing {
     pub threads: u8,
     pub sessions: u8,
     pub redo: u64,
@@ -35,12 +35,12 @@ pub struct Progress {
 /// and how many commands each session asked.
 #[derive(Debug, Drop)]
 pub struct Counts {
-    pub progress: Progress,
+    pub standing: Standing,
     pub payload: u64,
     pub redo: u64,
     pub asked: [u16; 8],
     pub is_empty: bool,
-    ghost within: { (payload ≤ most_payload) × (progress.redo + redo ≤ most_redo) },
+    ghost within: { (payload ≤ most_payload) × (standing.redo + redo ≤ most_redo) },
 }
 
 /// Whether a number is one of so many from 1 on.
@@ -56,12 +56,12 @@ impl Counts {
     ghost use Rattle.feed_frames.specs.Counts.{standing_of, IsCountOf, HasRoom, IsShown, Judges, tag_byte};
 
     /// The counts as a delivery begins.
-    pub fn new(progress: Progress) -> Counts
-        ensures progress { result.progress ≡ progress }
+    pub fn new(standing: Standing) -> Counts
+        ensures standing { result.standing ≡ standing }
         ensures none { IsCountOf result [] }
     {
         Counts {
-            progress,
+            standing,
             payload: 0,
             redo: 0,
             asked: [0; 8],
@@ -90,7 +90,7 @@ impl Counts {
     /// Judges the length of the next frame.
     pub fn check_length(&self, tag: Tag, len: u32) -> Result<(), FeedKind>
         ensures fault { (before : List Item) → IsCountOf self.now before →
-            Judges result (length_fault (standing_of self.now.progress) before (tag_byte tag) len) }
+            Judges result (length_fault (standing_of self.now.standing) before (tag_byte tag) len) }
         ensures room { OnOk result (HasRoom self.now tag len) }
         ensures shown { IfErr result IsShown }
     {
@@ -101,10 +101,10 @@ impl Counts {
         if tag.is_counted() && self.payload + len > MOST_PAYLOAD {
             return Err(FeedKind::TooLarge);
         }
-        if tag == Tag::Redo && self.progress.redo + self.redo + len > MOST_REDO {
+        if tag == Tag::Redo && self.standing.redo + self.redo + len > MOST_REDO {
             return Err(FeedKind::TooLarge);
         }
-        if tag == Tag::End && self.progress.ends >= MOST_DELIVERIES {
+        if tag == Tag::End && self.standing.ends >= MOST_DELIVERIES {
             return Err(FeedKind::TooManyDeliveries);
         }
         Ok(())
@@ -113,10 +113,10 @@ impl Counts {
     /// Judges the thread of a redo frame.
     pub fn check_thread(&self, thread: u8) -> Result<(), FeedKind>
         ensures fault { (before : List Item) (rest : List ℕ) →
-            Judges result (payload_fault (standing_of self.now.progress) before redo_tag (thread ∷ rest)) }
+            Judges result (payload_fault (standing_of self.now.standing) before redo_tag (thread ∷ rest)) }
         ensures shown { IfErr result IsShown }
     {
-        if is_in(self.progress.threads, thread) {
+        if is_in(self.standing.threads, thread) {
             Ok(())
         } else {
             Err(FeedKind::BadThread)
@@ -126,12 +126,12 @@ impl Counts {
     /// Judges the session of a command frame.
     pub fn check_session(&self, session: u8) -> Result<(), FeedKind>
         ensures fault { (before : List Item) (rest : List ℕ) → IsCountOf self.now before →
-            Judges result (payload_fault (standing_of self.now.progress) before command_tag (session ∷ rest)) }
+            Judges result (payload_fault (standing_of self.now.standing) before command_tag (session ∷ rest)) }
         ensures session { OnOk result ((1 ≤ session) × (session ≤ 8)) }
         ensures shown { IfErr result IsShown }
         ensures few { OnOk result (slice_index self.now.asked (session - 1) < 1024) }
     {
-        if !is_in(self.progress.sessions, session) {
+        if !is_in(self.standing.sessions, session) {
             return Err(FeedKind::BadSession);
         }
         if self.asked[session as usize - 1] >= MOST_COMMANDS {
@@ -143,8 +143,8 @@ impl Counts {
     /// Counts a redo frame.
     pub fn count_redo(&mut self, len: u32)
         requires payload { self.old.payload + len ≤ most_payload }
-        requires redo { self.old.progress.redo + self.old.redo + len ≤ most_redo }
-        ensures progress { self.new.progress ≡ self.old.progress }
+        requires redo { self.old.standing.redo + self.old.redo + len ≤ most_redo }
+        ensures standing { self.new.standing ≡ self.old.standing }
         ensures payload { self.new.payload ≡ self.old.payload + len }
         ensures counts { (before : List Item) (thread : ℕ) (bytes : List ℕ) → IsCountOf self.old before →
             len ≡ 1 + length bytes → IsCountOf self.new (before ++ Redo thread bytes ∷ []) }
@@ -159,7 +159,7 @@ impl Counts {
         requires session { (1 ≤ session) × (session ≤ 8) }
         requires few { slice_index self.old.asked (session - 1) < 1024 }
         requires payload { self.old.payload + len ≤ most_payload }
-        ensures progress { self.new.progress ≡ self.old.progress }
+        ensures standing { self.new.standing ≡ self.old.standing }
         ensures payload { self.new.payload ≡ self.old.payload + len }
         ensures counts { (before : List Item) (text : List ℕ) → IsCountOf self.old before →
             len ≡ 1 + length text → IsCountOf self.new (before ++ Asks session text ∷ []) }
@@ -172,7 +172,7 @@ impl Counts {
     /// Counts a frame of schedule bytes.
     pub fn count_schedule(&mut self, len: u32)
         requires { self.old.payload + len ≤ most_payload }
-        ensures progress { self.new.progress ≡ self.old.progress }
+        ensures standing { self.new.standing ≡ self.old.standing }
         ensures payload { self.new.payload ≡ self.old.payload + len }
         ensures counts { (before : List Item) (bytes : List ℕ) → IsCountOf self.old before →
             len ≡ length bytes → IsCountOf self.new (before ++ Schedules bytes ∷ []) }
@@ -182,16 +182,16 @@ impl Counts {
     }
 
     /// What is decided once the delivery has ended.
-    pub fn ended(&self) -> Progress
-        requires { self.now.progress.ends < most_deliveries }
+    pub fn ended(&self) -> Standing
+        requires { self.now.standing.ends < most_deliveries }
         ensures { (items : List Item) → IsCountOf self.now items →
-            standing_of result ≡ after_delivery (standing_of self.now.progress) items }
+            standing_of result ≡ after_delivery (standing_of self.now.standing) items }
     {
-        Progress {
-            threads: self.progress.threads,
-            sessions: self.progress.sessions,
-            redo: self.progress.redo + self.redo,
-            ends: self.progress.ends + 1,
+        Standing {
+            threads: self.standing.threads,
+            sessions: self.standing.sessions,
+            redo: self.standing.redo + self.redo,
+            ends: self.standing.ends + 1,
         }
     }
 }

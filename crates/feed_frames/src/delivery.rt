@@ -1,4 +1,4 @@
-use crate::counts::{Counts, Progress};
+use crate::counts::{Counts, Standing};
 use crate::fault::FeedFault;
 use crate::head::{Head, read_head};
 use crate::intake::{take_byte, take_payload};
@@ -32,11 +32,11 @@ pub enum Frame {
 
 /// What the frames that were read came to.
 #[derive(Clone, Copy, Debug, PartialEq, Eq)]
-pub enum Ending {
+pub enum EndOf {
     /// The end of a delivery.
-    OfDelivery,
+    Delivery,
     /// The end of the feed.
-    OfFeed,
+    Feed,
 }
 
 impl Incoming {
@@ -45,15 +45,15 @@ impl Incoming {
     ghost use Rattle.feed_frames.specs.Intake.{HasCauseIn};
     ghost use Rattle.feed_frames.specs.Counts.{IsCountOf, HasRoom, standing_of};
     ghost use Rattle.feed_frames.specs.Answers.{IsCausedBy};
-    ghost use Rattle.feed_frames.specs.Frames.{Holds, StopsAfter, IsGoodHead, TookItem, ReadsFrame, ReadsFrames, head_bytes};
+    ghost use Rattle.feed_frames.specs.Frames.{Holds, IsToRead, ReadsFrame, ReadsFrames, ReadsPayload};
 
     /// A delivery of which nothing was read.
-    pub fn new(alloc: Global, progress: Progress) -> Incoming
-        ensures progress { result.counts.progress ≡ progress }
+    pub fn new(alloc: Global, standing: Standing) -> Incoming
+        ensures standing { result.counts.standing ≡ standing }
         ensures none { Holds result [] }
     {
         Incoming {
-            counts: Counts::new(progress),
+            counts: Counts::new(standing),
             pieces: PieceList::new(alloc),
             commands: CommandList::new(alloc),
             schedule: Vec::new(alloc),
@@ -77,12 +77,12 @@ impl Incoming {
         alloc: Global,
         source: &mut R,
         taken: &mut u64,
-    ) -> Result<Ending, FeedFault>
+    ) -> Result<EndOf, FeedFault>
         requires none { Holds self.old [] }
         requires room { taken.old < 2 ^ 62 }
-        ensures progress { self.new.counts.progress ≡ self.old.counts.progress }
+        ensures standing { self.new.counts.standing ≡ self.old.counts.standing }
         ensures frames { ReadsFrames self.old self.new (R.left source.old) (R.left source.new) taken.old taken.new result }
-        ensures ends { result ≡ Ok Ending.OfDelivery → self.old.counts.progress.ends < most_deliveries }
+        ensures ends { result ≡ Ok EndOf.Delivery → self.old.counts.standing.ends < most_deliveries }
         ensures counted { IsOk result → taken.new ≤ taken.old + 201326597 }
         ensures cause { IsCausedBy result (R.faults source.old) (R.faults source.new) }
     {
@@ -90,8 +90,8 @@ impl Incoming {
             let start = *taken;
             match self.read_frame(alloc, source, taken) {
                 Ok(Frame::Item) => {}
-                Ok(Frame::End) => return Ok(Ending::OfDelivery),
-                Ok(Frame::Stop) => return Ok(Ending::OfFeed),
+                Ok(Frame::End) => return Ok(EndOf::Delivery),
+                Ok(Frame::Stop) => return Ok(EndOf::Feed),
                 Err(kind) => return Err(FeedFault::new(kind, start, *taken)),
             }
         }
@@ -105,7 +105,7 @@ impl Incoming {
         taken: &mut u64,
     ) -> Result<Frame, FeedKind>
         requires { taken.old < 2 ^ 63 }
-        ensures progress { self.new.counts.progress ≡ self.old.counts.progress }
+        ensures standing { self.new.counts.standing ≡ self.old.counts.standing }
         ensures frame { (before : List Item) → Holds self.old before →
             ReadsFrame self.old self.new before (R.left source.old) (R.left source.new) taken.old taken.new result }
         ensures grows { result ≡ Ok Frame.Item → self.old.counts.payload < self.new.counts.payload }
@@ -132,14 +132,9 @@ impl Incoming {
         taken: &mut u64,
         head: Head,
     ) -> Result<(), FeedKind>
-        requires tag { head.tag ≡ Tag.Redo }
-        requires room { HasRoom self.old.counts head.tag head.len }
-        requires count { taken.old + head.len < 2 ^ 64 }
-        ensures progress { self.new.counts.progress ≡ self.old.counts.progress }
-        ensures item { (before : List Item) → Holds self.old before → let st = standing_of self.old.counts.progress in
-            IsGoodHead st before head → MatchResult result
-            (λ _. TookItem self.old self.new before head (R.left source.old) (R.left source.new) taken.old taken.new)
-            (StopsAfter (head_bytes head) (frame_fault st before) (R.left source.old) (R.left source.new) taken.old taken.new) }
+        requires { IsToRead Tag.Redo self.old head taken.old }
+        ensures standing { self.new.counts.standing ≡ self.old.counts.standing }
+        ensures item { ReadsPayload self.old self.new head (R.left source.old) (R.left source.new) taken.old taken.new result }
         ensures payload { OnOk result (self.new.counts.payload ≡ self.old.counts.payload + head.len) }
         ensures counted { OnOk result (taken.new ≡ taken.old + head.len) }
         ensures cause { HasCauseIn result (R.faults source.old) (R.faults source.new) }
@@ -149,9 +144,7 @@ impl Incoming {
         let mut bytes = Vec::new(alloc);
         take_payload(source, taken, &mut bytes, head.len as usize - 1)?;
         let bytes = Bytes::from_vec(bytes);
-        if self.pieces.push(RedoPiece { thread, bytes }).is_err() {
-            return Err(FeedKind::Memory);
-        }
+        self.pieces.push(RedoPiece { thread, bytes })?;
         self.counts.count_redo(head.len);
         Ok(())
     }
@@ -164,14 +157,9 @@ impl Incoming {
         taken: &mut u64,
         head: Head,
     ) -> Result<(), FeedKind>
-        requires tag { head.tag ≡ Tag.Command }
-        requires room { HasRoom self.old.counts head.tag head.len }
-        requires count { taken.old + head.len < 2 ^ 64 }
-        ensures progress { self.new.counts.progress ≡ self.old.counts.progress }
-        ensures item { (before : List Item) → Holds self.old before → let st = standing_of self.old.counts.progress in
-            IsGoodHead st before head → MatchResult result
-            (λ _. TookItem self.old self.new before head (R.left source.old) (R.left source.new) taken.old taken.new)
-            (StopsAfter (head_bytes head) (frame_fault st before) (R.left source.old) (R.left source.new) taken.old taken.new) }
+        requires { IsToRead Tag.Command self.old head taken.old }
+        ensures standing { self.new.counts.standing ≡ self.old.counts.standing }
+        ensures item { ReadsPayload self.old self.new head (R.left source.old) (R.left source.new) taken.old taken.new result }
         ensures payload { OnOk result (self.new.counts.payload ≡ self.old.counts.payload + head.len) }
         ensures counted { OnOk result (taken.new ≡ taken.old + head.len) }
         ensures cause { HasCauseIn result (R.faults source.old) (R.faults source.new) }
@@ -181,9 +169,7 @@ impl Incoming {
         let mut text = Vec::new(alloc);
         take_payload(source, taken, &mut text, head.len as usize - 1)?;
         let text = Bytes::from_vec(text);
-        if self.commands.push(CommandText { session, text }).is_err() {
-            return Err(FeedKind::Memory);
-        }
+        self.commands.push(CommandText { session, text })?;
         self.counts.count_command(session, head.len);
         Ok(())
     }
@@ -195,14 +181,9 @@ impl Incoming {
         taken: &mut u64,
         head: Head,
     ) -> Result<(), FeedKind>
-        requires tag { head.tag ≡ Tag.Schedule }
-        requires room { HasRoom self.old.counts head.tag head.len }
-        requires count { taken.old + head.len < 2 ^ 64 }
-        ensures progress { self.new.counts.progress ≡ self.old.counts.progress }
-        ensures item { (before : List Item) → Holds self.old before → let st = standing_of self.old.counts.progress in
-            IsGoodHead st before head → MatchResult result
-            (λ _. TookItem self.old self.new before head (R.left source.old) (R.left source.new) taken.old taken.new)
-            (StopsAfter (head_bytes head) (frame_fault st before) (R.left source.old) (R.left source.new) taken.old taken.new) }
+        requires { IsToRead Tag.Schedule self.old head taken.old }
+        ensures standing { self.new.counts.standing ≡ self.old.counts.standing }
+        ensures item { ReadsPayload self.old self.new head (R.left source.old) (R.left source.new) taken.old taken.new result }
         ensures payload { OnOk result (self.new.counts.payload ≡ self.old.counts.payload + head.len) }
         ensures counted { OnOk result (taken.new ≡ taken.old + head.len) }
         ensures cause { HasCauseIn result (R.faults source.old) (R.faults source.new) }

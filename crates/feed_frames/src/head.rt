@@ -24,7 +24,7 @@ pub fn read_head<R: Source>(
     taken: &mut u64,
 ) -> Result<Head, FeedKind>
     requires { taken.old + 5 < 2 ^ 64 }
-    ensures head { (before : List Item) → IsCountOf counts.now before → let st = standing_of counts.now.progress in
+    ensures head { (before : List Item) → IsCountOf counts.now before → let st = standing_of counts.now.standing in
         MatchResult result
         (λ head. Took (R.left source.old) (R.left source.new) taken.old taken.new (head_bytes head) × IsGoodHead st before head)
         (StopsAfter [] (frame_fault st before) (R.left source.old) (R.left source.new) taken.old taken.new) }

@@ -3,8 +3,9 @@ ghost use Rattle.std.specs.Int.{w32, to_be_bytes};
 ghost use Rattle.feed_frames.specs.Intake.{Took, TookOnto, Misses, HasCauseIn};
 
 use adg_io::outside::Source;
-use adg_io::transfer::{Ending, fill};
+use adg_io::transfer::{FillEnd, fill};
 use adg_model::fault::FeedKind;
+use byteorder::{BigEndian, ByteOrder};
 
 /// The most bytes that are asked for in one piece.
 const MOST_PIECE: usize = 65_536;
@@ -25,9 +26,9 @@ pub fn take_piece<R: Source>(
     let filled = fill(source, piece);
     *taken += filled.count as u64;
     match filled.ending {
-        Ending::Whole => Ok(()),
-        Ending::AtEnd => Err(FeedKind::Truncated),
-        Ending::Failed => Err(FeedKind::Read),
+        FillEnd::Whole => Ok(()),
+        FillEnd::AtEnd => Err(FeedKind::Truncated),
+        FillEnd::Failed => Err(FeedKind::Read),
     }
 }
 
@@ -54,7 +55,7 @@ pub fn take_length<R: Source>(source: &mut R, taken: &mut u64) -> Result<u32, Fe
 {
     let mut piece = [0; 4];
     take_piece(source, taken, &mut piece)?;
-    Ok(u32::from_be_bytes(piece))
+    Ok(BigEndian::read_u32(&piece))
 }
 
 /// Takes a payload of so many bytes, piece by piece, and appends it.
@@ -95,8 +96,6 @@ fn take_onto<R: Source>(
     ensures cause { HasCauseIn result (R.faults source.old) (R.faults source.new) }
 {
     let start = into.len();
-    if into.resize(start + wanted, 0).is_err() {
-        return Err(FeedKind::Memory);
-    }
+    into.resize(start + wanted, 0)?;
     take_piece(source, taken, &mut into[start..])
 }

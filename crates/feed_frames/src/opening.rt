@@ -7,7 +7,7 @@ ghost use Rattle.feed_frames.specs.Opening.{ReadOpening, MagicMissing, NoOpening
 ghost use Rattle.feed_frames.specs.Counts.{IsShown, Judges};
 ghost use Rattle.feed_frames.specs.Answers.{IsCausedBy};
 
-use crate::counts::{MOST_ACTORS, Progress, is_in};
+use crate::counts::{MOST_ACTORS, Standing, is_in};
 use crate::fault::FeedFault;
 use crate::intake::{take_byte, take_length, take_piece};
 use adg_io::outside::Source;
@@ -17,7 +17,7 @@ use adg_model::fault::FeedKind;
 const MAGIC: [u8; 8] = *b"IMADG01\n";
 
 /// Reads the magic and the header.
-pub fn read_opening<R: Source>(source: &mut R, taken: &mut u64) -> Result<Progress, FeedFault>
+pub fn read_opening<R: Source>(source: &mut R, taken: &mut u64) -> Result<Standing, FeedFault>
     requires { taken.old ≡ 0 }
     ensures opening { MatchResult result
         (ReadOpening (R.left source.old) (R.left source.new) taken.old taken.new)
@@ -30,7 +30,7 @@ pub fn read_opening<R: Source>(source: &mut R, taken: &mut u64) -> Result<Progre
     }
     let start = *taken;
     match read_first_frame(source, taken) {
-        Ok(progress) => Ok(progress),
+        Ok(standing) => Ok(standing),
         Err(kind) => Err(FeedFault::new(kind, start, *taken)),
     }
 }
@@ -54,7 +54,7 @@ fn read_magic<R: Source>(source: &mut R, taken: &mut u64) -> Result<(), FeedKind
 }
 
 /// Reads the first frame, which has to be the header.
-fn read_first_frame<R: Source>(source: &mut R, taken: &mut u64) -> Result<Progress, FeedKind>
+fn read_first_frame<R: Source>(source: &mut R, taken: &mut u64) -> Result<Standing, FeedKind>
     requires { taken.old < 100 }
     ensures header { MatchResult result
         (λ p. IsHeader p.threads p.sessions × (standing_of p ≡ start p.threads p.sessions)
@@ -76,7 +76,7 @@ fn read_first_frame<R: Source>(source: &mut R, taken: &mut u64) -> Result<Progre
     if !is_in(MOST_ACTORS, sessions) {
         return Err(FeedKind::BadSession);
     }
-    Ok(Progress {
+    Ok(Standing {
         threads,
         sessions,
         redo: 0,

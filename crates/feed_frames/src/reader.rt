@@ -1,5 +1,5 @@
-use crate::counts::Progress;
-use crate::delivery::{Ending, Incoming};
+use crate::counts::Standing;
+use crate::delivery::{EndOf, Incoming};
 use crate::fault::FeedFault;
 use crate::opening::read_opening;
 use crate::phase::Phase;
@@ -13,7 +13,7 @@ use std::marker::Model;
 pub struct FeedReader {
     alloc: Global,
     phase: Phase,
-    progress: Progress,
+    standing: Standing,
     taken: u64,
 }
 
@@ -30,9 +30,9 @@ impl Model for FeedReader {
 
     ghost Value = { FeedState };
 
-    ghost view = { λ r. record { phase = r.phase; standing = standing_of r.progress; taken = r.taken } };
+    ghost view = { λ r. record { phase = r.phase; standing = standing_of r.standing; taken = r.taken } };
 
-    ghost invariant = { λ r. IsReader (record { phase = r.phase; standing = standing_of r.progress; taken = r.taken }) };
+    ghost invariant = { λ r. IsReader (record { phase = r.phase; standing = standing_of r.standing; taken = r.taken }) };
 }
 
 impl FeedReader {
@@ -47,7 +47,7 @@ impl FeedReader {
         FeedReader {
             alloc,
             phase: Phase::Fresh,
-            progress: Progress {
+            standing: Standing {
                 threads: 0,
                 sessions: 0,
                 redo: 0,
@@ -61,14 +61,14 @@ impl FeedReader {
     pub fn threads(&self) -> u8
         ensures { result ≡ self.now.standing.threads }
     {
-        self.progress.threads
+        self.standing.threads
     }
 
     /// How many sessions the header names, and 0 before it was read.
     pub fn sessions(&self) -> u8
         ensures { result ≡ self.now.standing.sessions }
     {
-        self.progress.sessions
+        self.standing.sessions
     }
 
     /// How many bytes were taken so far.
@@ -88,8 +88,8 @@ impl FeedReader {
             Phase::Failed(fault) => Err(fault),
             Phase::Open | Phase::Ended => Ok(()),
             Phase::Fresh => match read_opening(source, &mut self.taken) {
-                Ok(progress) => {
-                    self.progress = progress;
+                Ok(standing) => {
+                    self.standing = standing;
                     self.phase = Phase::Open;
                     Ok(())
                 }
@@ -121,13 +121,13 @@ impl FeedReader {
         ensures step { AnswersDelivery self.old self.new (R.left source.old) (R.left source.new) result }
         ensures cause { IsCausedBy result (R.faults source.old) (R.faults source.new) }
     {
-        let mut incoming = Incoming::new(self.alloc, self.progress);
+        let mut incoming = Incoming::new(self.alloc, self.standing);
         match incoming.read_frames(self.alloc, source, &mut self.taken) {
-            Ok(Ending::OfDelivery) => {
-                self.progress = incoming.counts.ended();
+            Ok(EndOf::Delivery) => {
+                self.standing = incoming.counts.ended();
                 Ok(Step::Delivery(incoming.finish()))
             }
-            Ok(Ending::OfFeed) => {
+            Ok(EndOf::Feed) => {
                 self.phase = Phase::Ended;
                 Ok(Step::End)
             }

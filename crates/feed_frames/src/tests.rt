@@ -16,9 +16,6 @@ R\0\0\0\x4e\x01\0\x15\0\0\0\0\0\0\0\x0a\x01\x07\0\x01\0\x01\x01\x01\x01\0\x15\
 \x05\0\0\0\0\0\0\0\x07\x01\0\x38\
 E\0\0\0\0Q\0\0\0\x15\x01SELECT COUNT FROM t1E\0\0\0\0X\0\0\0\0";
 
-/// Its magic and its header.
-const OPENING: [u8; 15] = *b"IMADG01\nH\0\0\0\x02\x01\x01";
-
 /// How the reading of a whole feed went.
 #[derive(Debug, Drop)]
 struct Reading {
@@ -36,7 +33,7 @@ fn read(alloc: Global, bytes: &[u8], most: usize, failing: &[u64]) -> Result<Rea
     let mut reader = FeedReader::new(alloc);
     let mut deliveries = Vec::new(alloc);
     let mut fault = None;
-    for _ in 0..10 {
+    for _ in 0..70_000 {
         match reader.next_delivery(&mut source) {
             Ok(Step::Delivery(delivery)) => deliveries.push(delivery)?,
             Ok(Step::End) => break,
@@ -61,29 +58,110 @@ fn read(alloc: Global, bytes: &[u8], most: usize, failing: &[u64]) -> Result<Rea
     })
 }
 
+/// A name, the length of the feed, the byte that is another and its value, the kind of the fault, the
+/// byte that it names, and how many were taken.
+type Damage = (&'static str, usize, usize, u8, FeedKind, u64, u64);
+
+const DAMAGES: [Damage; 22] = [
+    ("no byte", 0, 0, 0x49, FeedKind::Truncated, 0, 0),
+    ("a magic that is cut", 7, 0, 0x49, FeedKind::Truncated, 7, 7),
+    ("redo that is cut", 60, 0, 0x49, FeedKind::Truncated, 60, 60),
+    (
+        "a stop that is cut",
+        138,
+        0,
+        0x49,
+        FeedKind::Truncated,
+        138,
+        138,
+    ),
+    ("another first byte", 139, 0, 0x48, FeedKind::BadMagic, 0, 8),
+    (
+        "another last byte of the magic",
+        139,
+        7,
+        0x0d,
+        FeedKind::BadMagic,
+        0,
+        8,
+    ),
+    ("no such first tag", 139, 8, 0x5a, FeedKind::BadTag, 8, 9),
+    ("no header first", 139, 8, 0x52, FeedKind::BadOrder, 8, 9),
+    (
+        "a header of 3 bytes",
+        139,
+        12,
+        0x03,
+        FeedKind::BadLength,
+        8,
+        13,
+    ),
+    ("no thread", 139, 13, 0x00, FeedKind::BadThread, 8, 14),
+    ("nine threads", 139, 13, 0x09, FeedKind::BadThread, 8, 14),
+    ("no session", 139, 14, 0x00, FeedKind::BadSession, 8, 15),
+    ("nine sessions", 139, 14, 0x09, FeedKind::BadSession, 8, 15),
+    ("no such tag", 139, 15, 0x5a, FeedKind::BadTag, 15, 16),
+    ("a second header", 139, 15, 0x48, FeedKind::BadOrder, 15, 16),
+    (
+        "a stop with a payload",
+        139,
+        15,
+        0x58,
+        FeedKind::BadLength,
+        15,
+        20,
+    ),
+    ("32 MiB and more", 139, 16, 0x02, FeedKind::TooLarge, 15, 20),
+    (
+        "redo of thread 2",
+        139,
+        20,
+        0x02,
+        FeedKind::BadThread,
+        15,
+        21,
+    ),
+    (
+        "a stop in a delivery",
+        139,
+        98,
+        0x58,
+        FeedKind::BadOrder,
+        98,
+        99,
+    ),
+    (
+        "an end with a payload",
+        139,
+        102,
+        0x01,
+        FeedKind::BadLength,
+        98,
+        103,
+    ),
+    (
+        "a text of 1,279 bytes",
+        139,
+        106,
+        0x05,
+        FeedKind::BadLength,
+        103,
+        108,
+    ),
+    (
+        "a command of session 2",
+        139,
+        108,
+        0x02,
+        FeedKind::BadSession,
+        103,
+        109,
+    ),
+];
+
 #[test]
 fn names_the_first_fault(rt: HostRuntime) -> Result<(), Fail> {
-    for (len, at, byte, kind, place, taken) in [
-        (0, 0, 0x49, FeedKind::Truncated, 0, 0),
-        (7, 0, 0x49, FeedKind::Truncated, 7, 7),
-        (60, 0, 0x49, FeedKind::Truncated, 60, 60),
-        (138, 0, 0x49, FeedKind::Truncated, 138, 138),
-        (139, 0, 0x48, FeedKind::BadMagic, 0, 8),
-        (139, 8, 0x5a, FeedKind::BadTag, 8, 9),
-        (139, 8, 0x52, FeedKind::BadOrder, 8, 9),
-        (139, 12, 0x03, FeedKind::BadLength, 8, 13),
-        (139, 13, 0x00, FeedKind::BadThread, 8, 14),
-        (139, 14, 0x09, FeedKind::BadSession, 8, 15),
-        (139, 15, 0x5a, FeedKind::BadTag, 15, 16),
-        (139, 15, 0x48, FeedKind::BadOrder, 15, 16),
-        (139, 15, 0x58, FeedKind::BadLength, 15, 20),
-        (139, 16, 0x02, FeedKind::TooLarge, 15, 20),
-        (139, 20, 0x02, FeedKind::BadThread, 15, 21),
-        (139, 98, 0x58, FeedKind::BadOrder, 98, 99),
-        (139, 102, 0x01, FeedKind::BadLength, 98, 103),
-        (139, 106, 0x05, FeedKind::BadLength, 103, 108),
-        (139, 108, 0x02, FeedKind::BadSession, 103, 109),
-    ] {
+    for (name, len, at, byte, kind, place, taken) in DAMAGES {
         let mut bytes = Vec::from_slice(rt.alloc(), FEED.as_slice())?;
         bytes.truncate(len);
         if at < bytes.len() {
@@ -92,9 +170,9 @@ fn names_the_first_fault(rt: HostRuntime) -> Result<(), Fail> {
         for most in [1, 3, 1000] {
             let reading = read(rt.alloc(), bytes.as_slice(), most, &[])?;
             let wanted = FeedFault { kind, byte: place };
-            assert_eq!(rt; reading.fault, Some(wanted), "byte {at} of {len}");
-            assert_eq!(rt; reading.taken, taken, "byte {at} of {len}");
-            assert!(rt; reading.again, "byte {at} of {len}");
+            assert_eq!(rt; reading.fault, Some(wanted), "{name}");
+            assert_eq!(rt; reading.taken, taken, "{name}");
+            assert!(rt; reading.again, "{name}");
         }
     }
     Ok(())
@@ -159,17 +237,34 @@ fn push_commands(feed: &mut Vec<u8>, count: u16) -> Result<(), Fail> {
     Ok(())
 }
 
-/// A feed at each limit: the payload of a delivery, the commands of a session, and a command.
+/// Appends so many deliveries of nothing.
+fn push_ends(feed: &mut Vec<u8>, count: u32) -> Result<(), Fail> {
+    for _ in 0..count {
+        push_frame(feed, b'E', &[])?;
+    }
+    Ok(())
+}
+
+/// The opening of a feed of eight threads and eight sessions.
+fn opening(alloc: Global) -> Result<Vec<u8>, Fail> {
+    Ok(Vec::from_slice(alloc, b"IMADG01\nH\0\0\0\x02\x08\x08".as_slice())?)
+}
+
+/// A feed at each limit: the threads and sessions, the payload of a delivery, the commands of a
+/// session, a command, and the deliveries.
 fn full_feed(alloc: Global) -> Result<Vec<u8>, Fail> {
-    let mut feed = Vec::from_slice(alloc, OPENING.as_slice())?;
-    let schedule = vec![in alloc; 0; 33_554_432]?;
-    push_frame(&mut feed, b'S', schedule.as_slice())?;
+    let mut feed = opening(alloc)?;
+    let mut redo = vec![in alloc; 0; 33_554_432]?;
+    redo[0] = 8;
+    push_frame(&mut feed, b'R', redo.as_slice())?;
     push_frame(&mut feed, b'E', &[])?;
     push_commands(&mut feed, 1_024)?;
     push_frame(&mut feed, b'E', &[])?;
-    let command = vec![in alloc; 1; 1_025]?;
+    let command = vec![in alloc; 8; 1_025]?;
     push_frame(&mut feed, b'Q', command.as_slice())?;
-    push_frame(&mut feed, b'E', &[])?;
+    push_frame(&mut feed, b'R', &[1])?;
+    push_frame(&mut feed, b'S', &[1])?;
+    push_ends(&mut feed, 65_533)?;
     push_frame(&mut feed, b'X', &[])?;
     Ok(feed)
 }
@@ -183,27 +278,50 @@ fn keeps_to_the_limits(rt: HostRuntime) -> Result<(), Fail> {
     assert_eq!(rt; reading.fault, None);
     assert_eq!(rt; reading.taken, taken);
     assert_eq!(rt; reading.left, 1);
-    let lens = [(33_554_432, 0), (0, 1_024), (0, 1)];
-    assert_eq!(rt; reading.deliveries.len(), lens.len());
-    for (delivery, (schedule, commands)) in reading.deliveries.iter().zip(lens) {
-        assert_eq!(rt; delivery.schedule.len(), schedule);
+    assert_eq!(rt; reading.deliveries.len(), 65_535);
+    let sizes = [(1, 0, 0), (0, 1_024, 0), (1, 1, 1), (0, 0, 0)];
+    for (delivery, (pieces, commands, schedule)) in reading.deliveries.iter().zip(sizes) {
+        assert_eq!(rt; delivery.pieces.len(), pieces);
         assert_eq!(rt; delivery.commands.len(), commands);
+        assert_eq!(rt; delivery.schedule.len(), schedule);
     }
+    Ok(())
+}
 
-    let mut large = Vec::from_slice(rt.alloc(), OPENING.as_slice())?;
+#[test]
+fn refuses_one_more_than_the_most(rt: HostRuntime) -> Result<(), Fail> {
+    let mut large = opening(rt.alloc())?;
     large.extend_from_slice(b"S\x02\0\0\x01".as_slice())?;
-    let mut long = Vec::from_slice(rt.alloc(), OPENING.as_slice())?;
+    let mut both = opening(rt.alloc())?;
+    both.extend_from_slice(b"S\0\0\0\x01\0R\x02\0\0\0".as_slice())?;
+    let mut long = opening(rt.alloc())?;
     long.extend_from_slice(b"Q\0\0\x04\x02".as_slice())?;
-    let mut many = Vec::from_slice(rt.alloc(), OPENING.as_slice())?;
+    let mut many = opening(rt.alloc())?;
     push_commands(&mut many, 1_025)?;
-    for (feed, kind, byte, taken) in [
-        (large, FeedKind::TooLarge, 15, 20),
-        (long, FeedKind::BadLength, 15, 20),
-        (many, FeedKind::TooManyCommands, 6_159, 6_165),
+    let mut ends = opening(rt.alloc())?;
+    push_ends(&mut ends, 65_536)?;
+    let mut thread = opening(rt.alloc())?;
+    push_frame(&mut thread, b'R', &[9])?;
+    let mut none = opening(rt.alloc())?;
+    push_frame(&mut none, b'S', &[])?;
+    for (name, feed, kind, byte, taken) in [
+        ("a payload", large, FeedKind::TooLarge, 15, 20),
+        ("two payloads", both, FeedKind::TooLarge, 21, 26),
+        ("a command", long, FeedKind::BadLength, 15, 20),
+        ("commands", many, FeedKind::TooManyCommands, 6_159, 6_165),
+        (
+            "deliveries",
+            ends,
+            FeedKind::TooManyDeliveries,
+            327_690,
+            327_695,
+        ),
+        ("a thread", thread, FeedKind::BadThread, 15, 21),
+        ("schedule bytes", none, FeedKind::BadLength, 15, 20),
     ] {
         let reading = read(rt.alloc(), feed.as_slice(), 100_000, &[])?;
-        assert_eq!(rt; reading.fault, Some(FeedFault { kind, byte }));
-        assert_eq!(rt; reading.taken, taken);
+        assert_eq!(rt; reading.fault, Some(FeedFault { kind, byte }), "{name}");
+        assert_eq!(rt; reading.taken, taken, "{name}");
     }
     Ok(())
 }

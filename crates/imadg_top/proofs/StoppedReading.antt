@@ -6,7 +6,7 @@ use Rattle.std.proofs.lemmas.List.{length-take, take_all}
 use Rattle.adg_model.specs.declared.fault.FeedKind.{FeedKind}
 use Rattle.adg_model.specs.declared.fault.FeedKind.TheVariants as kinds
 use Rattle.adg_model.specs.Feed.{Item, Standing, AreItems, IsCut, FrameFails, MagicFails, HeaderFails, DeliveryFails, magic, frame, end_bytes, first_frame_fault, frame_fault, items_bytes}
-use Rattle.feed_frames.proofs.Told.{frame_more, first_more}
+use Rattle.feed_frames.proofs.ReaderLaws.{frame_more, first_more}
 use Rattle.feed_frames.specs.declared.fault.FeedFault.{FeedFault}
 use Rattle.feed_frames.specs.Frames.{FrameStops}
 use Rattle.feed_frames.specs.Intake.{fault_byte}

@@ -5,7 +5,9 @@ use adg_io::memory_sink::MemSink;
 use adg_io::memory_source::MemSource;
 use std::alloc::Global;
 use std::process::Abort;
+use std::sync::Wait;
 use std::test::Fail;
+use std::thread::Threads;
 
 /// A feed of one thread and one session with two deliveries: redo, and a command.
 const FEED: [u8; 139] = *b"IMADG01\nH\0\0\0\x02\x01\x01\
@@ -55,10 +57,11 @@ fn sink_of(alloc: Global, outside: Outside) -> Result<MemSink, Fail> {
     Ok(MemSink::new(alloc, 16_777_216, outside.takes, failing)?)
 }
 
-/// Runs a feed, and compares its status, what was taken and what was written.
+/// Runs a feed by both top calls, and compares the status, what was taken and what was written.
 fn assert_runs(
-    rt: &impl Abort,
+    rt: &(impl Abort + Threads + Wait + Sync),
     alloc: Global,
+    name: &str,
     words: &[&str],
     feed: &[u8],
     outside: Outside,
@@ -66,18 +69,31 @@ fn assert_runs(
 ) -> Result<(), Fail> {
     let (status, taken, written) = wanted;
     let words = words_of(alloc, words)?;
-    let mut source = source_of(alloc, feed, outside)?;
-    let mut sink = sink_of(alloc, outside)?;
-    let outcome = stepped(alloc, words.as_slice(), &mut source, &mut sink);
+    let left = (feed.len() as u64).saturating_sub(taken);
     let ended = Outcome {
         status,
         taken,
         written: written.len() as u64,
     };
-    assert_eq!(rt; outcome, ended, "{written}");
-    assert_eq!(rt; sink.held(), written.as_bytes(), "{written}");
-    let left = (feed.len() as u64).saturating_sub(taken);
-    assert_eq!(rt; source.left().len() as u64, left, "{written}");
+    for threads in [false, true] {
+        let mut source = source_of(alloc, feed, outside)?;
+        let mut sink = sink_of(alloc, outside)?;
+        let outcome = if threads {
+            standby(
+                rt,
+                alloc,
+                words.as_slice(),
+                &mut source,
+                &mut sink,
+                &OpenGate,
+            )
+        } else {
+            stepped(alloc, words.as_slice(), &mut source, &mut sink)
+        };
+        assert_eq!(rt; outcome, ended, "{name}");
+        assert_eq!(rt; sink.held(), written.as_bytes(), "{name}");
+        assert_eq!(rt; source.left().len() as u64, left, "{name}");
+    }
     Ok(())
 }
 
@@ -93,79 +109,200 @@ fn damaged(alloc: Global, len: usize, damage: &[(usize, u8)]) -> Result<Vec<u8>,
     Ok(feed)
 }
 
+/// A name, the length of the feed, the bytes that are others, and how the run ends.
+type Damage = (
+    &'static str,
+    usize,
+    &'static [(usize, u8)],
+    u8,
+    u64,
+    &'static str,
+);
+
+const DAMAGES: [Damage; 24] = [
+    ("none", 139, &[], 0, 139, ANSWER),
+    (
+        "no byte",
+        0,
+        &[],
+        2,
+        0,
+        "feed refused: Truncated at byte 0\n",
+    ),
+    (
+        "cut in the redo",
+        60,
+        &[],
+        2,
+        60,
+        "feed refused: Truncated at byte 60\n",
+    ),
+    (
+        "cut before the end",
+        138,
+        &[],
+        2,
+        138,
+        "d1 end scn=11\nd2 s1 c1 scn=11 rows=1 col=0 row=1\n= 1\nd2 end scn=11\nfeed refused: Truncated at byte 138\n",
+    ),
+    (
+        "another magic",
+        139,
+        &[(0, 0x48)],
+        2,
+        8,
+        "feed refused: BadMagic at byte 0\n",
+    ),
+    (
+        "no such tag",
+        139,
+        &[(15, 0x5a)],
+        2,
+        16,
+        "feed refused: BadTag at byte 15\n",
+    ),
+    (
+        "no header",
+        139,
+        &[(8, 0x52)],
+        2,
+        9,
+        "feed refused: BadOrder at byte 8\n",
+    ),
+    (
+        "a second header",
+        139,
+        &[(15, 0x48)],
+        2,
+        16,
+        "feed refused: BadOrder at byte 15\n",
+    ),
+    (
+        "a header of 3 bytes",
+        139,
+        &[(12, 3)],
+        2,
+        13,
+        "feed refused: BadLength at byte 8\n",
+    ),
+    (
+        "a text of 1,025 bytes",
+        139,
+        &[(106, 4), (107, 2)],
+        2,
+        108,
+        "d1 end scn=11\nfeed refused: BadLength at byte 103\n",
+    ),
+    (
+        "no thread",
+        139,
+        &[(13, 0)],
+        2,
+        14,
+        "feed refused: BadThread at byte 8\n",
+    ),
+    (
+        "redo of thread 2",
+        139,
+        &[(20, 2)],
+        2,
+        21,
+        "feed refused: BadThread at byte 15\n",
+    ),
+    (
+        "nine sessions",
+        139,
+        &[(14, 9)],
+        2,
+        15,
+        "feed refused: BadSession at byte 8\n",
+    ),
+    (
+        "a command of session 2",
+        139,
+        &[(108, 2)],
+        2,
+        109,
+        "d1 end scn=11\nfeed refused: BadSession at byte 103\n",
+    ),
+    (
+        "32 MiB and a byte",
+        139,
+        &[(16, 2), (19, 1)],
+        2,
+        20,
+        "feed refused: TooLarge at byte 15\n",
+    ),
+    ("two threads", 139, &[(13, 2)], 7, 15, "not built yet\n"),
+    (
+        "another trailer",
+        139,
+        &[(97, 0x39)],
+        3,
+        103,
+        "redo refused: thread 1 record 2 BadTrailer\n",
+    ),
+    (
+        "two other trailers",
+        139,
+        &[(41, 0x16), (97, 0x39)],
+        3,
+        103,
+        "redo refused: thread 1 record 1 BadTrailer\n",
+    ),
+    (
+        "a record of 12 bytes",
+        139,
+        &[(22, 12)],
+        3,
+        103,
+        "redo refused: thread 1 record 1 BadLength\n",
+    ),
+    (
+        "SCN 0",
+        139,
+        &[(30, 0)],
+        3,
+        103,
+        "redo refused: thread 1 record 1 ScnRange\n",
+    ),
+    (
+        "an SCN that stands still",
+        139,
+        &[(51, 10)],
+        3,
+        103,
+        "redo refused: thread 1 record 2 ScnOrder\n",
+    ),
+    (
+        "no such vector",
+        139,
+        &[(62, 0x0d)],
+        3,
+        103,
+        "redo refused: thread 1 record 2 vector 2 BadVector\n",
+    ),
+    (
+        "a commit without its flag",
+        139,
+        &[(95, 0)],
+        7,
+        103,
+        "not built yet\n",
+    ),
+    (
+        "another table",
+        139,
+        &[(128, 0x32)],
+        0,
+        139,
+        "d1 end scn=11\nd2 s1 c1 scn=11 refused NoTable\nd2 end scn=11\n",
+    ),
+];
+
 #[test]
 fn names_each_damage(rt: HostRuntime) -> Result<(), Fail> {
-    let rows: [(usize, &[(usize, u8)], u8, u64, &str); 14] = [
-        (139, &[], 0, 139, ANSWER),
-        (0, &[], 2, 0, "feed refused: Truncated at byte 0\n"),
-        (60, &[], 2, 60, "feed refused: Truncated at byte 60\n"),
-        (
-            138,
-            &[],
-            2,
-            138,
-            "d1 end scn=11\nd2 s1 c1 scn=11 rows=1 col=0 row=1\n= 1\nd2 end scn=11\nfeed refused: Truncated at byte 138\n",
-        ),
-        (
-            139,
-            &[(15, 0x5a)],
-            2,
-            16,
-            "feed refused: BadTag at byte 15\n",
-        ),
-        (
-            139,
-            &[(13, 0x00)],
-            2,
-            14,
-            "feed refused: BadThread at byte 8\n",
-        ),
-        (
-            139,
-            &[(16, 0x02), (19, 0x01)],
-            2,
-            20,
-            "feed refused: TooLarge at byte 15\n",
-        ),
-        (139, &[(13, 0x02)], 7, 15, "not built yet\n"),
-        (
-            139,
-            &[(97, 0x39)],
-            3,
-            103,
-            "redo refused: thread 1 record 2 BadTrailer\n",
-        ),
-        (
-            139,
-            &[(41, 0x16), (97, 0x39)],
-            3,
-            103,
-            "redo refused: thread 1 record 1 BadTrailer\n",
-        ),
-        (
-            139,
-            &[(62, 0x0d)],
-            3,
-            103,
-            "redo refused: thread 1 record 2 vector 2 BadVector\n",
-        ),
-        (139, &[(95, 0x00)], 7, 103, "not built yet\n"),
-        (
-            139,
-            &[(128, 0x32)],
-            0,
-            139,
-            "d1 end scn=11\nd2 s1 c1 scn=11 refused NoTable\nd2 end scn=11\n",
-        ),
-        (
-            139,
-            &[(109, 0x54)],
-            7,
-            134,
-            "d1 end scn=11\nnot built yet\n",
-        ),
-    ];
-    for (len, damage, status, taken, written) in rows {
+    for (name, len, damage, status, taken, written) in DAMAGES {
         let feed = damaged(rt.alloc(), len, damage)?;
         for gives in [1, 7, 100_000] {
             let outside = Outside { gives, ..CALM };
@@ -173,6 +310,7 @@ fn names_each_damage(rt: HostRuntime) -> Result<(), Fail> {
             assert_runs(
                 &rt,
                 rt.alloc(),
+                name,
                 &ONE_WORKER,
                 feed.as_slice(),
                 outside,
@@ -183,12 +321,107 @@ fn names_each_damage(rt: HostRuntime) -> Result<(), Fail> {
     Ok(())
 }
 
+/// A feed of one delivery, with this redo and these commands of session 1.
+fn feed_of(alloc: Global, redo: &[u8], commands: u16, text: &str) -> Result<Vec<u8>, Fail> {
+    let mut feed = Vec::from_slice(alloc, &FEED.as_slice()[..15])?;
+    push_redo(alloc, &mut feed, redo, 100_000)?;
+    let mut command = Vec::from_slice(alloc, &[1])?;
+    command.extend_from_slice(text.as_bytes())?;
+    for _ in 0..commands {
+        push_frame(&mut feed, b'Q', command.as_slice())?;
+    }
+    push_frame(&mut feed, b'E', &[])?;
+    push_frame(&mut feed, b'X', &[])?;
+    Ok(feed)
+}
+
+#[test]
+fn refuses_one_more_than_the_most(rt: HostRuntime) -> Result<(), Fail> {
+    let rows: [(&str, &[u8], u16, &str, (u8, u64, &str)); 5] = [
+        (
+            "an end of the thread",
+            b"\0\x0e\0\0\0\0\0\0\0\x09\x01\x0b\0\x0e",
+            0,
+            "",
+            (0, 45, "d1 end scn=9\n"),
+        ),
+        (
+            "a byte after the end",
+            b"\0\x0e\0\0\0\0\0\0\0\x09\x01\x0b\0\x0e\0",
+            0,
+            "",
+            (3, 41, "redo refused: thread 1 record 2 AfterEnd\n"),
+        ),
+        (
+            "SCN 2^48",
+            b"\0\x0d\0\x01\0\0\0\0\0\0\0\0\x0d",
+            0,
+            "",
+            (3, 39, "redo refused: thread 1 record 1 ScnRange\n"),
+        ),
+        (
+            "1,025 commands",
+            b"",
+            1025,
+            "",
+            (2, 6_165, "feed refused: TooManyCommands at byte 6159\n"),
+        ),
+        (
+            "no count",
+            b"",
+            1,
+            "SELECT COUNT FROM t01",
+            (7, 47, "not built yet\n"),
+        ),
+    ];
+    for (name, redo, commands, text, wanted) in rows {
+        let feed = feed_of(rt.alloc(), redo, commands, text)?;
+        assert_runs(
+            &rt,
+            rt.alloc(),
+            name,
+            &ONE_WORKER,
+            feed.as_slice(),
+            CALM,
+            wanted,
+        )?;
+    }
+
+    let mut feed = Vec::from_slice(rt.alloc(), &FEED.as_slice()[..15])?;
+    let mut written = String::new(rt.alloc());
+    for delivery in 1..65_537 {
+        push_frame(&mut feed, b'E', &[])?;
+        if delivery < 65_536 {
+            write!(written, "d{delivery} end scn=0\n")?;
+        }
+    }
+    written.push_str("feed refused: TooManyDeliveries at byte 327690\n")?;
+    let wanted = (2, 327_695, written.as_str());
+    assert_runs(
+        &rt,
+        rt.alloc(),
+        "65,536 deliveries",
+        &ONE_WORKER,
+        feed.as_slice(),
+        CALM,
+        wanted,
+    )
+}
+
 #[test]
 fn ends_a_feed_of_no_delivery(rt: HostRuntime) -> Result<(), Fail> {
     let feed = b"IMADG01\nH\0\0\0\x02\x01\x01X\0\0\0\0".as_slice();
     for gives in [1, 7, 100_000] {
         let outside = Outside { gives, ..CALM };
-        assert_runs(&rt, rt.alloc(), &ONE_WORKER, feed, outside, (0, 20, ""))?;
+        assert_runs(
+            &rt,
+            rt.alloc(),
+            "no delivery",
+            &ONE_WORKER,
+            feed,
+            outside,
+            (0, 20, ""),
+        )?;
     }
     Ok(())
 }
@@ -206,20 +439,55 @@ fn names_each_truncation(rt: HostRuntime) -> Result<(), Fail> {
         let written = format!(in rt.alloc(); "{before}feed refused: Truncated at byte {len}\n")?;
         let feed = damaged(rt.alloc(), len, &[])?;
         let wanted = (2, len as u64, written.as_str());
-        assert_runs(&rt, rt.alloc(), &ONE_WORKER, feed.as_slice(), CALM, wanted)?;
+        assert_runs(
+            &rt,
+            rt.alloc(),
+            written.as_str(),
+            &ONE_WORKER,
+            feed.as_slice(),
+            CALM,
+            wanted,
+        )?;
     }
     Ok(())
 }
 
 #[test]
 fn yields_to_the_outside(rt: HostRuntime) -> Result<(), Fail> {
-    for (gives, failing_read, takes, failing_write, status, taken, written) in [
-        (1, 0, 1, 0, 0, 139, ANSWER),
-        (100_000, 3, 4_096, 0, 4, 9, ""),
-        (100_000, 12, 4_096, 0, 4, 103, "d1 end scn=11\n"),
-        (100_000, 0, 7, 2, 5, 103, "d1 end "),
-        (100_000, 0, 4_096, 2, 5, 134, "d1 end scn=11\n"),
-        (100_000, 0, 4_096, 3, 0, 139, ANSWER),
+    for (name, gives, failing_read, takes, failing_write, status, taken, written) in [
+        ("one byte a call", 1, 0, 1, 0, 0, 139, ANSWER),
+        ("read 3 fails", 100_000, 3, 4_096, 0, 4, 9, ""),
+        (
+            "read 12 fails",
+            100_000,
+            12,
+            4_096,
+            0,
+            4,
+            103,
+            "d1 end scn=11\n",
+        ),
+        (
+            "write 2 fails inside a line",
+            100_000,
+            0,
+            7,
+            2,
+            5,
+            103,
+            "d1 end ",
+        ),
+        (
+            "write 2 fails",
+            100_000,
+            0,
+            4_096,
+            2,
+            5,
+            134,
+            "d1 end scn=11\n",
+        ),
+        ("no third write", 100_000, 0, 4_096, 3, 0, 139, ANSWER),
     ] {
         let outside = Outside {
             gives,
@@ -231,6 +499,7 @@ fn yields_to_the_outside(rt: HostRuntime) -> Result<(), Fail> {
         assert_runs(
             &rt,
             rt.alloc(),
+            name,
             &ONE_WORKER,
             FEED.as_slice(),
             outside,
@@ -243,29 +512,16 @@ fn yields_to_the_outside(rt: HostRuntime) -> Result<(), Fail> {
         failing_write: 2,
         ..CALM
     };
+    let wanted = (5, 60, "feed ");
     assert_runs(
         &rt,
         rt.alloc(),
+        "write 2 of a refusal fails",
         &ONE_WORKER,
         feed.as_slice(),
         outside,
-        (5, 60, "feed "),
-    )?;
-
-    let words = words_of(rt.alloc(), &ONE_WORKER)?;
-    let mut source = source_of(rt.alloc(), FEED.as_slice(), CALM)?;
-    let mut sink = sink_of(rt.alloc(), CALM)?;
-    let outcome = standby(
-        &rt,
-        rt.alloc(),
-        words.as_slice(),
-        &mut source,
-        &mut sink,
-        &OpenGate,
-    );
-    assert_eq!(rt; outcome.status, 0);
-    assert_eq!(rt; sink.held(), ANSWER.as_bytes());
-    Ok(())
+        wanted,
+    )
 }
 
 #[test]
@@ -281,6 +537,7 @@ fn accepts_exactly_its_words(rt: HostRuntime) -> Result<(), Fail> {
         assert_runs(
             &rt,
             rt.alloc(),
+            "accepted",
             words,
             FEED.as_slice(),
             CALM,
@@ -313,7 +570,15 @@ fn accepts_exactly_its_words(rt: HostRuntime) -> Result<(), Fail> {
         &["step", "--workers", "1", "--workers=1"],
     ];
     for words in refused {
-        assert_runs(&rt, rt.alloc(), words, FEED.as_slice(), CALM, (1, 0, USAGE))?;
+        assert_runs(
+            &rt,
+            rt.alloc(),
+            "refused",
+            words,
+            FEED.as_slice(),
+            CALM,
+            (1, 0, USAGE),
+        )?;
     }
     Ok(())
 }
@@ -358,31 +623,35 @@ fn cut_feed(alloc: Global, places: &[usize], most: usize) -> Result<Vec<u8>, Fai
 
 #[test]
 fn takes_redo_cut_anywhere(rt: HostRuntime) -> Result<(), Fail> {
-    let rows: [(&[usize], usize, u64, &str); 4] = [
-        (&[77], 100, 139, ANSWER),
-        (&[77], 1, 595, ANSWER),
+    let rows: [(&str, &[usize], usize, u64, &str); 4] = [
+        ("not cut", &[77], 100, 139, ANSWER),
+        ("each byte a frame", &[77], 1, 595, ANSWER),
         (
+            "behind a record, and inside one",
             &[21, 76, 77],
             100,
             161,
             "d1 end scn=10\nd2 end scn=10\nd3 end scn=11\nd4 s1 c1 scn=11 rows=1 col=0 row=1\n= 1\nd4 end scn=11\n",
         ),
         (
+            "the last byte is missing",
             &[76],
             100,
             138,
             "d1 end scn=10\nd2 s1 c1 scn=10 rows=1 col=0 row=0\n= 0\nd2 end scn=10\n",
         ),
     ];
-    for (places, most, taken, written) in rows {
+    for (name, places, most, taken, written) in rows {
         let feed = cut_feed(rt.alloc(), places, most)?;
+        let wanted = (0, taken, written);
         assert_runs(
             &rt,
             rt.alloc(),
+            name,
             &ONE_WORKER,
             feed.as_slice(),
             CALM,
-            (0, taken, written),
+            wanted,
         )?;
     }
 
@@ -400,6 +669,7 @@ fn takes_redo_cut_anywhere(rt: HostRuntime) -> Result<(), Fail> {
         assert_runs(
             &rt,
             rt.alloc(),
+            "32 MiB of schedule bytes",
             &ONE_WORKER,
             feed.as_slice(),
             outside,
@@ -427,13 +697,15 @@ d1 s2 c2 scn=11 rows=1 col=0 row=1\n= 1\nd1 end scn=11\n";
     let taken = feed.len() as u64;
     for takes in [1, 4_096] {
         let outside = Outside { takes, ..CALM };
+        let wanted = (0, taken, ANSWERS);
         assert_runs(
             &rt,
             rt.alloc(),
+            "two sessions",
             &ONE_WORKER,
             feed.as_slice(),
             outside,
-            (0, taken, ANSWERS),
+            wanted,
         )?;
     }
     Ok(())

@@ -1,3 +1,3 @@
-pub mod Whole
-pub mod Steps
-pub mod Holds
+pub mod NextRecordLaws
+pub mod ReadingLaws
+pub mod AssemblyLaws

@@ -1,3 +1,3 @@
-pub mod Front
+pub mod NextRecord
 pub mod Reading
 pub mod Assembly

@@ -25,5 +25,5 @@ pub record Gains (before after : List Raw) (from to : Mark) (fault : Option Fram
   pub stands : Stands fault from text more rest
 
 -- a list that begins with another
-abbrev pub BeginsWith : {T : Type 0} → List T → List T → Type 0
-BeginsWith front all = take (length front) all ≡ front
+abbrev pub IsPrefix : {T : Type 0} → List T → List T → Type 0
+IsPrefix front all = take (length front) all ≡ front

@@ -2,9 +2,9 @@ ghost use Rattle.std.specs.Prelude.{◌≡◌, ℕ, ◌+◌, ◌<◌, ◌≤◌,
 ghost use Rattle.adg_model.specs.Records.{Raw};
 ghost use Rattle.redo_frames.specs.Assembly.{Holds, IsAnswer, empty, next_number, raw_of_record, given};
 
-use crate::front::Standing;
+use crate::next_record::Mark;
 use crate::reading::read_piece;
-use crate::record::{Frame, FrameRefused, RawRecord};
+use crate::record::{FrameRefused, HeldRecord, RawRecord};
 use adg_model::fault::FrameKind;
 use std::alloc::Global;
 use std::collections::VecDeque;
@@ -15,9 +15,9 @@ use std::marker::Model;
 pub struct Assembler {
     alloc: Global,
     taken: u64,
-    held: VecDeque<Frame>,
+    held: VecDeque<HeldRecord>,
     rest: Vec<u8>,
-    standing: Standing,
+    mark: Mark,
     refused: Option<FrameKind>,
 }
 
@@ -28,7 +28,7 @@ impl Model for Assembler {
 
     ghost Value = { Assembly };
 
-    ghost view = { λ a. record { taken = a.taken; held = a.held.items; rest = a.rest.items; mark = a.standing; refused = a.refused } };
+    ghost view = { λ a. record { taken = a.taken; held = a.held.items; rest = a.rest.items; mark = a.mark; refused = a.refused } };
 
     ghost invariant = { λ a. (a.taken + length a.held.items + 1 < 2 ^ 64) × (a.refused ≡ None → IsPart a.rest.items) };
 }
@@ -44,7 +44,7 @@ impl Assembler {
             taken: 0,
             held: VecDeque::new(alloc),
             rest: Vec::new(alloc),
-            standing: Standing::at_start(),
+            mark: Mark::at_start(),
             refused: None,
         }
     }
@@ -65,17 +65,12 @@ impl Assembler {
         if let Some(kind) = self.refused {
             return Err(self.refusal(kind));
         }
+        // What was there before the piece: on want of memory the assembler is cut back to it.
         let held = self.held.len();
         let begun = self.rest.len();
-        match read_piece(
-            self.alloc,
-            &mut self.held,
-            &mut self.rest,
-            self.standing,
-            piece,
-        ) {
+        match read_piece(self.alloc, &mut self.held, &mut self.rest, self.mark, piece) {
             Ok(stop) => {
-                self.standing = stop.standing;
+                self.mark = stop.mark;
                 self.refused = stop.fault;
                 match stop.fault {
                     None => Ok(()),
@@ -99,9 +94,9 @@ impl Assembler {
         ensures rest { self.new ≡ record self.old { taken = self.old.taken + length (given result); held = self.new.held } }
         ensures holds { (text : List ℕ) (records : List Raw) → Holds self.old text records → Holds self.new text (records ++ given result) }
     {
-        let frame = self.held.pop_front()?;
+        let next = self.held.pop_front()?;
         self.taken += 1;
-        Some(frame.numbered(self.taken))
+        Some(next.numbered(self.taken))
     }
 
     /// Whether the record that comes next is refused, as `feed` would answer it.

@@ -3,7 +3,7 @@
 #![tactic(auto)]
 
 mod assembler;
-mod front;
+mod next_record;
 mod number;
 mod reading;
 mod record;

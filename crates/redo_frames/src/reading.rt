@@ -1,11 +1,11 @@
 ghost use Rattle.std.specs.Prelude.{◌≡◌, ◌+◌, ◌-◌, ◌≤◌, ◌++◌, length, take, drop, min, max, IfOk, OnErr};
 ghost use Rattle.adg_model.specs.Records.{IsPart, stated_len};
-ghost use Rattle.redo_frames.specs.Front.{Stops};
-ghost use Rattle.redo_frames.specs.Reading.{Reads, Gains, BeginsWith};
+ghost use Rattle.redo_frames.specs.NextRecord.{Stops};
+ghost use Rattle.redo_frames.specs.Reading.{Reads, Gains, IsPrefix};
 
-use crate::front::{Front, Standing, look_at};
+use crate::next_record::{Mark, NextRecord, look_at};
 use crate::number::first_u16;
-use crate::record::Frame;
+use crate::record::HeldRecord;
 use adg_base::memory::Memory;
 use adg_model::fault::FrameKind;
 use std::alloc::Global;
@@ -14,13 +14,13 @@ use std::collections::VecDeque;
 /// Where a thread stands after the bytes read so far, and the fault of the record that comes next.
 #[derive(Debug, Drop)]
 pub struct Stop {
-    pub standing: Standing,
+    pub mark: Mark,
     pub fault: Option<FrameKind>,
 }
 
 /// How many bytes are whole records, and where the thread stands behind them.
 #[derive(Debug, Drop)]
-struct Progress {
+struct WholeRecords {
     used: usize,
     stop: Stop,
 }
@@ -28,37 +28,34 @@ struct Progress {
 /// Adds the whole records that the bytes begin with to those held.
 fn read_records(
     alloc: Global,
-    held: &mut VecDeque<Frame>,
-    standing: Standing,
+    held: &mut VecDeque<HeldRecord>,
+    mark: Mark,
     bytes: &[u8],
-) -> Result<Progress, Memory>
+) -> Result<WholeRecords, Memory>
     ensures used { IfOk result (λ p. p.used ≤ length bytes.now) }
-    ensures reads { IfOk result (λ p. Reads held.old.items held.new.items standing p.stop.standing (take p.used bytes.now)) }
-    ensures stops { IfOk result (λ p. Stops p.stop.fault p.stop.standing (drop p.used bytes.now)) }
-    ensures memory { OnErr result (BeginsWith held.old.items held.new.items) }
+    ensures reads { IfOk result (λ p. Reads held.old.items held.new.items mark p.stop.mark (take p.used bytes.now)) }
+    ensures stops { IfOk result (λ p. Stops p.stop.fault p.stop.mark (drop p.used bytes.now)) }
+    ensures memory { OnErr result (IsPrefix held.old.items held.new.items) }
 {
-    let mut standing = standing;
+    let mut mark = mark;
     let mut used = 0;
     loop {
         let rest = &bytes[used..];
-        let (len, scn) = match look_at(standing, rest) {
-            Front::Part => {
-                let stop = Stop {
-                    standing,
-                    fault: None,
-                };
-                return Ok(Progress { used, stop });
+        let (len, scn) = match look_at(mark, rest) {
+            NextRecord::Part => {
+                let stop = Stop { mark, fault: None };
+                return Ok(WholeRecords { used, stop });
             }
-            Front::Fault(kind) => {
+            NextRecord::Fault(kind) => {
                 let fault = Some(kind);
-                let stop = Stop { standing, fault };
-                return Ok(Progress { used, stop });
+                let stop = Stop { mark, fault };
+                return Ok(WholeRecords { used, stop });
             }
-            Front::Whole { len, scn } => (len, scn),
+            NextRecord::Whole { len, scn } => (len, scn),
         };
-        let frame = Frame::read(alloc, len, scn, rest)?;
-        standing = Standing::after(&frame);
-        held.push_back(frame)?;
+        let next = HeldRecord::read(alloc, len, scn, rest)?;
+        mark = Mark::after(&next);
+        held.push_back(next)?;
         used += len;
     }
 }
@@ -80,7 +77,7 @@ fn complete(rest: &mut Vec<u8>, piece: &[u8]) -> Result<usize, Memory>
     ensures added { IfOk result (λ used. rest.new.items ≡ rest.old.items ++ take used piece.now) }
     ensures part { IfOk result (λ used. IsPart rest.new.items → used ≡ length piece.now) }
     ensures bound { IfOk result (λ used. IsPart rest.old.items → length rest.new.items ≤ max 2 (stated_len rest.new.items)) }
-    ensures memory { OnErr result (BeginsWith rest.old.items rest.new.items) }
+    ensures memory { OnErr result (IsPrefix rest.old.items rest.new.items) }
 {
     let used = add_up_to(rest, 2, piece)?;
     if rest.len() < 2 {
@@ -93,57 +90,55 @@ fn complete(rest: &mut Vec<u8>, piece: &[u8]) -> Result<usize, Memory>
 /// Reads bytes that begin with a record, and keeps those of an unfinished one.
 fn read_rest(
     alloc: Global,
-    held: &mut VecDeque<Frame>,
+    held: &mut VecDeque<HeldRecord>,
     rest: &mut Vec<u8>,
-    standing: Standing,
+    mark: Mark,
     bytes: &[u8],
 ) -> Result<Stop, Memory>
-    ensures gains { IfOk result (λ stop. Gains held.old.items held.new.items standing stop.standing stop.fault bytes.now rest.new.items) }
+    ensures gains { IfOk result (λ stop. Gains held.old.items held.new.items mark stop.mark stop.fault bytes.now rest.new.items) }
     ensures count { IfOk result (λ stop. length held.new.items ≤ length held.old.items + length bytes.now) }
-    ensures held { OnErr result (BeginsWith held.old.items held.new.items) }
+    ensures held { OnErr result (IsPrefix held.old.items held.new.items) }
     ensures rest { OnErr result (rest.new.items ≡ rest.old.items) }
 {
-    let progress = read_records(alloc, held, standing, bytes)?;
-    let unread = Vec::from_slice(alloc, &bytes[progress.used..])?;
+    let whole = read_records(alloc, held, mark, bytes)?;
+    // Copied before it is stored: on want of memory the unfinished record is as it was.
+    let unread = Vec::from_slice(alloc, &bytes[whole.used..])?;
     *rest = unread;
-    Ok(progress.stop)
+    Ok(whole.stop)
 }
 
 /// Reads a piece that goes on where the unfinished record ends.
 pub fn read_piece(
     alloc: Global,
-    held: &mut VecDeque<Frame>,
+    held: &mut VecDeque<HeldRecord>,
     rest: &mut Vec<u8>,
-    standing: Standing,
+    mark: Mark,
     piece: &[u8],
 ) -> Result<Stop, Memory>
     requires { IsPart rest.old.items }
-    ensures gains { IfOk result (λ stop. Gains held.old.items held.new.items standing stop.standing stop.fault (rest.old.items ++ piece.now) rest.new.items) }
+    ensures gains { IfOk result (λ stop. Gains held.old.items held.new.items mark stop.mark stop.fault (rest.old.items ++ piece.now) rest.new.items) }
     ensures count { IfOk result (λ stop. length held.new.items ≤ length held.old.items + length piece.now) }
-    ensures held { OnErr result (BeginsWith held.old.items held.new.items) }
-    ensures rest { OnErr result (BeginsWith rest.old.items rest.new.items) }
+    ensures held { OnErr result (IsPrefix held.old.items held.new.items) }
+    ensures rest { OnErr result (IsPrefix rest.old.items rest.new.items) }
 {
     if rest.is_empty() {
-        return read_rest(alloc, held, rest, standing, piece);
+        return read_rest(alloc, held, rest, mark, piece);
     }
     let used = complete(rest, piece)?;
-    let (len, scn) = match look_at(standing, rest.as_slice()) {
-        Front::Part => {
-            return Ok(Stop {
-                standing,
-                fault: None,
-            });
+    let (len, scn) = match look_at(mark, rest.as_slice()) {
+        NextRecord::Part => {
+            return Ok(Stop { mark, fault: None });
         }
-        Front::Fault(kind) => {
+        NextRecord::Fault(kind) => {
             return Ok(Stop {
-                standing,
+                mark,
                 fault: Some(kind),
             });
         }
-        Front::Whole { len, scn } => (len, scn),
+        NextRecord::Whole { len, scn } => (len, scn),
     };
-    let frame = Frame::read(alloc, len, scn, rest.as_slice())?;
-    let standing = Standing::after(&frame);
-    held.push_back(frame)?;
-    read_rest(alloc, held, rest, standing, &piece[used..])
+    let next = HeldRecord::read(alloc, len, scn, rest.as_slice())?;
+    let mark = Mark::after(&next);
+    held.push_back(next)?;
+    read_rest(alloc, held, rest, mark, &piece[used..])
 }

@@ -1,17 +1,15 @@
 ghost use Rattle.std.specs.Prelude.{◌≡◌, ◌≤◌, ◌-◌, length, IfOk};
 ghost use Rattle.adg_model.specs.Records.{is_end, stated_len, stated_scn};
-ghost use Rattle.redo_frames.specs.Front.{raw_at};
+ghost use Rattle.redo_frames.specs.NextRecord.{raw_at};
 
 use adg_base::list::{Bytes, List};
 use adg_base::memory::Memory;
 use adg_base::number::Scn;
 use adg_model::fault::FrameKind;
+use adg_model::record::tag;
 use std::alloc::Global;
 use std::marker::Model;
 use thiserror::Error;
-
-/// The bytes of a record that are not its vectors.
-pub const OVERHEAD: usize = 13;
 
 /// A whole record of a thread, its vectors still as bytes. The records of a thread count from 1.
 #[derive(Debug, Drop)]
@@ -35,13 +33,13 @@ pub enum FrameRefused {
 
 /// A whole record that waits to be taken.
 #[derive(Debug, Drop)]
-pub struct Frame {
+pub struct HeldRecord {
     scn: Scn,
     count: u8,
     body: Bytes,
 }
 
-impl Model for Frame {
+impl Model for HeldRecord {
     ghost use Rattle.adg_model.specs.Records.{Raw};
 
     ghost Value = { Raw };
@@ -49,18 +47,18 @@ impl Model for Frame {
     ghost view = { λ f. record { scn = f.scn; count = f.count; body = f.body } };
 }
 
-impl Frame {
+impl HeldRecord {
     /// The record of this length and SCN that the bytes begin with.
-    pub fn read(alloc: Global, len: usize, scn: Scn, bytes: &[u8]) -> Result<Frame, Memory>
+    pub fn read(alloc: Global, len: usize, scn: Scn, bytes: &[u8]) -> Result<HeldRecord, Memory>
         requires long { 13 ≤ len }
         requires len_stated { len ≡ stated_len bytes.now }
         requires whole { len ≤ length bytes.now }
         requires scn_stated { scn ≡ stated_scn bytes.now }
-        ensures { IfOk result (λ frame. frame ≡ raw_at bytes.now) }
+        ensures { IfOk result (λ next. next ≡ raw_at bytes.now) }
     {
         let count = bytes[10];
         let body = List::from_slice(alloc, &bytes[11..len - 2])?;
-        Ok(Frame { scn, count, body })
+        Ok(HeldRecord { scn, count, body })
     }
 
     /// The SCN.
@@ -74,7 +72,7 @@ impl Frame {
     pub fn is_end(&self) -> bool
         ensures { result ≡ is_end self.now }
     {
-        self.count == 1 && matches!(self.body.as_slice(), [0x0b, ..])
+        self.count == 1 && matches!(self.body.as_slice(), [tag::END_THREAD, ..])
     }
 
     /// The record with its number in the thread.

@@ -2,6 +2,7 @@ ghost use Rattle.std.specs.Prelude.{◌<◌, length};
 
 use crate::{Assembler, FrameKind, FrameRefused, RawRecord};
 use std::alloc::Global;
+use std::test::Fail;
 
 /// Two records: one of SCN 10 with one vector, and one of SCN 11 with three.
 const REDO: [u8; 77] = [
@@ -66,22 +67,87 @@ fn refusal(alloc: Global, bytes: &[u8]) -> Option<FrameRefused>
 
 #[test]
 fn refuses_the_first_bad_record(rt: HostRuntime) {
-    let short = b"\x00\x0c".as_slice();
-    let trailer = b"\x00\x0d\0\0\0\0\0\0\0\x01\0\x00\x0c".as_slice();
-    let no_scn = b"\x00\x0d\0\0\0\0\0\0\0\0\0\x00\x0d".as_slice();
-    let large_scn = b"\x00\x0d\0\x01\0\0\0\0\0\0\0\x00\x0d".as_slice();
-    let equal_scn =
-        b"\x00\x0d\0\0\0\0\0\0\0\x01\0\x00\x0d\x00\x0d\0\0\0\0\0\0\0\x01\0\x00\x0d".as_slice();
-    let after_end = b"\x00\x0e\0\0\0\0\0\0\0\x01\x01\x0b\x00\x0e\0".as_slice();
-    for (bytes, number, kind) in [
-        (short, 1, FrameKind::BadLength),
-        (trailer, 1, FrameKind::BadTrailer),
-        (no_scn, 1, FrameKind::ScnRange),
-        (large_scn, 1, FrameKind::ScnRange),
-        (equal_scn, 2, FrameKind::ScnOrder),
-        (after_end, 2, FrameKind::AfterEnd),
-    ] {
+    let rows: [(&str, &[u8], u64, FrameKind); 8] = [
+        ("a length of 12", b"\x00\x0c", 1, FrameKind::BadLength),
+        ("a length of 0", b"\0\0", 1, FrameKind::BadLength),
+        (
+            "another trailer",
+            b"\x00\x0d\0\0\0\0\0\0\0\x01\0\x00\x0c",
+            1,
+            FrameKind::BadTrailer,
+        ),
+        (
+            "a trailer whose high byte is another",
+            b"\x00\x0d\0\0\0\0\0\0\0\x01\0\x01\x0d",
+            1,
+            FrameKind::BadTrailer,
+        ),
+        (
+            "SCN 0",
+            b"\x00\x0d\0\0\0\0\0\0\0\0\0\x00\x0d",
+            1,
+            FrameKind::ScnRange,
+        ),
+        (
+            "SCN 2^48",
+            b"\x00\x0d\0\x01\0\0\0\0\0\0\0\x00\x0d",
+            1,
+            FrameKind::ScnRange,
+        ),
+        (
+            "an equal SCN",
+            b"\x00\x0d\0\0\0\0\0\0\0\x01\0\x00\x0d\x00\x0d\0\0\0\0\0\0\0\x01\0\x00\x0d",
+            2,
+            FrameKind::ScnOrder,
+        ),
+        (
+            "a byte after the end",
+            b"\x00\x0e\0\0\0\0\0\0\0\x01\x01\x0b\x00\x0e\0",
+            2,
+            FrameKind::AfterEnd,
+        ),
+    ];
+    for (name, bytes, number, kind) in rows {
         let want = FrameRefused::Refused { number, kind };
-        assert_eq!(rt; refusal(rt.alloc(), bytes), Some(want));
+        assert_eq!(rt; refusal(rt.alloc(), bytes), Some(want), "{name}");
     }
+}
+
+/// The record of this length and SCN whose vectors are zeros.
+fn record_of(alloc: Global, len: u16, scn: u64, count: u8) -> Result<Vec<u8>, Fail> {
+    let mut bytes = vec![in alloc; 0; 65_535]?;
+    bytes.truncate(usize::from(len));
+    let (low, high) = (len.to_be_bytes(), scn.to_be_bytes());
+    if bytes.len() >= 13 {
+        let end = bytes.len() - 2;
+        bytes[..2].copy_from_slice(&low);
+        bytes[2..10].copy_from_slice(&high);
+        bytes[10] = count;
+        bytes[end..].copy_from_slice(&low);
+    }
+    Ok(bytes)
+}
+
+#[test]
+fn takes_records_at_each_limit(rt: HostRuntime) -> Result<(), Fail> {
+    for (name, len, scn, count, piece) in [
+        ("the least", 13, 1, 0, 13),
+        ("the longest", 65_535, 281_474_976_710_655, 255, 65_535),
+        ("the longest in pieces", 65_535, 1, 255, 4_096),
+        ("the longest in bytes", 65_535, 1, 1, 1),
+    ] {
+        let bytes = record_of(rt.alloc(), len, scn, count)?;
+        let mut assembler = Assembler::new(rt.alloc());
+        for piece in bytes.as_slice().chunks(piece) {
+            assert!(rt;
+                piece.len() < 100_000 && assembler.check().is_ok(),
+                "{name}"
+            );
+            assert!(rt; assembler.feed(piece).is_ok(), "{name}");
+        }
+        let body = &bytes.as_slice()[11..usize::from(len) - 2];
+        assert!(rt; is_record(&assembler.take(), 1, scn, count, body), "{name}");
+        assert!(rt; assembler.is_between_records(), "{name}");
+    }
+    Ok(())
 }

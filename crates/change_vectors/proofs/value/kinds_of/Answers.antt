@@ -1,4 +1,5 @@
 use Rattle.std.proofs.lemmas.Result.{err_from_is_err_and}
+use Rattle.change_vectors.specs.declared.unread.Unread.TheVariants.{Bad}
 use Rattle.change_vectors.specs.Reading.{many_at, kind_at}
 use Rattle.change_vectors.proofs.Many.{goes_on, ends, is_done}
 use Rattle.change_vectors.proofs.value.kinds_of.Goals as goal
@@ -6,7 +7,7 @@ use Rattle.change_vectors.proofs.value.kinds_of.Goals as goal
 pub returns-in_err-kind : goal.returns-in_err-kind
 returns-in_err-kind c =
     let p = err_from_is_err_and c.from_residual-in_err-kind.result c.from_residual-in_err-kind.ensures.1 in
-    rw (p.1, p.2) (ends kind_at c.in_err-kind.field-0.0 c.loop.kinds.items c.args.count c.loop.counter c.loop.rest.now (many_at kind_at c.args.count c.args.bytes.now) c.loop-test.true c.in_err-kind.ensures c.loop.invariant)
+    rw (p.1, p.2) (ends kind_at Bad c.loop.kinds.items c.args.count c.loop.counter c.loop.rest.now (many_at kind_at c.args.count c.args.bytes.now) c.loop-test.true c.in_err-kind.ensures c.loop.invariant)
 
 pub loop-preserved : goal.loop-preserved
 loop-preserved c =

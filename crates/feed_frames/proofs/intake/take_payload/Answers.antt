@@ -1,6 +1,6 @@
 use Rattle.std.proofs.Common.{arith}
 use Rattle.std.proofs.lemmas.Result.{err_from_is_err_and}
-use Rattle.feed_frames.proofs.Taking.{misses_after}
+use Rattle.feed_frames.proofs.IntakeLaws.{misses_after}
 use Rattle.feed_frames.proofs.intake.take_payload.Goals as goal
 
 pub returns-in_err-take_onto-clause-took : goal.returns-in_err-take_onto-clause-took

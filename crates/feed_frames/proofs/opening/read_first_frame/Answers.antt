@@ -1,6 +1,6 @@
 use Rattle.std.proofs.Common.{arith, sym, ◌∙◌, refl}
 use Rattle.std.proofs.lemmas.Result.{err_from_is_err_and}
-use Rattle.feed_frames.proofs.FirstFrame.{before_tag, at_tag, in_length, at_length, headed, no_threads, at_threads, no_sessions, at_sessions, header, in_range}
+use Rattle.feed_frames.proofs.OpeningLaws.{before_tag, at_tag, in_length, at_length, headed, no_threads, at_threads, no_sessions, at_sessions, header, in_range}
 use Rattle.feed_frames.proofs.opening.read_first_frame.Goals as goal
 
 pub returns-in_err-take_byte-clause-header : goal.returns-in_err-take_byte-clause-header

@@ -1,5 +1,5 @@
 use Rattle.std.proofs.lemmas.Result.{err_from_is_err_and}
-use Rattle.feed_frames.proofs.FirstFrame.{magic_missing}
+use Rattle.feed_frames.proofs.OpeningLaws.{magic_missing}
 use Rattle.feed_frames.proofs.opening.read_magic.Goals as goal
 
 pub returns-in_err-take_piece-clause-magic : goal.returns-in_err-take_piece-clause-magic

@@ -1,6 +1,6 @@
 use Rattle.std.proofs.Common.{◌≡◌, refl}
 use Rattle.std.specs.Prelude.{Result, Ok, Err, MatchResult}
-use Rattle.feed_frames.proofs.FirstFrame.{no_header}
+use Rattle.feed_frames.proofs.OpeningLaws.{no_header}
 use Rattle.feed_frames.proofs.opening.read_opening.Goals as goal
 
 no_err : {T E P : Type 0} (Q : E → Type 0) (r : Result T E) → ((e : E) → r ≡ Err e → ⊥) → MatchResult r (λ _. P) Q → P

@@ -4,9 +4,9 @@ use Rattle.adg_model.specs.Feed.{length_fault, payload_fault, command_tag, piece
 use Rattle.adg_model.specs.Feed.Item.{Asks}
 use Rattle.adg_base.specs.declared.command.CommandText.{CommandText}
 use Rattle.feed_frames.specs.Counts.{standing_of}
-use Rattle.feed_frames.proofs.Items.{command_item, gives_one, gives_none, bytes_none, did}
+use Rattle.feed_frames.proofs.Items.{command_item, gives_one, gives_none, bytes_none}
 use Rattle.feed_frames.proofs.Stages.{no_payload, at_first, in_payload, no_memory}
-use Rattle.feed_frames.proofs.Taking.{took_both}
+use Rattle.feed_frames.proofs.IntakeLaws.{took_both}
 use Rattle.feed_frames.proofs.delivery.Incoming.read_command.Goals as goal
 
 pub returns-in_err-session-clause-item : goal.returns-in_err-session-clause-item
@@ -28,26 +28,27 @@ returns-in_err-take_payload-clause-item g c = λ before holds good.
     rw (p.1, p.2) (in_payload (c.in_ok-session.session ∷ []) (record { good_tag = good.tag; good_length = good.length; small = omega arith }) c.in_ok-session.ensures.took t (omega (arith, some))
     (rw c.requires.tag (c.in_ok-check_session.ensures.fault before t.bytes holds.counts)))
 
-pub returns-then-is_err-clause-item : goal.returns-then-is_err-clause-item
-returns-then-is_err-clause-item g c = λ before holds good.
+pub returns-in_err-push-clause-item : goal.returns-in_err-push-clause-item
+returns-in_err-push-clause-item g c = λ before holds good.
+    let p = err_from_is_err_and c.from_residual-in_err-push.result c.from_residual-in_err-push.ensures.1 in
     let t = c.in_ok-take_payload.ensures.took in
     let some : 1 ≤ c.args.head.len = c.requires.room.some (rw c.requires.tag refl) in
-    no_memory (c.in_ok-session.session ∷ t.bytes) (record { good_tag = good.tag; good_length = good.length; small = omega arith })
+    rw (p.1, p.2) (no_memory (c.in_ok-session.session ∷ t.bytes) (record { good_tag = good.tag; good_length = good.length; small = omega arith })
     (took_both _ _ _ _ _ _ (c.in_ok-session.session ∷ []) t.bytes c.in_ok-session.ensures.took t.took)
     (omega (arith, t.whole, some))
-    (rw c.requires.tag (c.in_ok-check_session.ensures.fault before t.bytes holds.counts))
+    (rw c.requires.tag (c.in_ok-check_session.ensures.fault before t.bytes holds.counts)))
 
 pub returns-clause-item : goal.returns-clause-item
 returns-clause-item g c = λ before holds good.
     let t = c.in_ok-take_payload.ensures.took in
-    let st = standing_of c.args.self.now.counts.progress in
+    let st = standing_of c.args.self.now.counts.standing in
     let some : 1 ≤ c.args.head.len = c.requires.room.some (rw c.requires.tag refl) in
     let whole : c.args.head.len ≡ 1 + length t.bytes = omega (arith, t.whole, some) in
     let good_length : length_fault st before command_tag c.args.head.len ≡ None = rw c.requires.tag at good.length in
     let good_session : payload_fault st before command_tag (c.in_ok-session.session ∷ []) ≡ None = c.in_ok-check_session.ensures.fault before [] holds.counts in
     let bytes : c.from_vec-text.result ≡ t.bytes = c.from_vec-text.ensures ∙ t.appended ∙ ap (λ l. l ++ t.bytes) c.new-text.ensures.items in
     let pushed : c.push.new.self ≡ c.args.self.now.commands ++ record { session = c.in_ok-session.session; text = t.bytes } ∷ [] =
-    did c.push.result c.is_err.result c.is_err.ensures.value c.if-is_err.false c.push.ensures.ok
+    c.in_ok-push.ensures.ok
     ∙ ap {B = List CommandText} (λ (b : List ℕ). c.args.self.now.commands ++ record { session = c.in_ok-session.session; text = b } ∷ []) bytes in
     let item = Asks c.in_ok-session.session t.bytes in
     record {

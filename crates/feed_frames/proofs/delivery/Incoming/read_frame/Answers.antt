@@ -11,7 +11,7 @@ pub returns-in_err-read_redo-in-Redo-clause-frame : goal.returns-in_err-read_red
 returns-in_err-read_redo-in-Redo-clause-frame g c = λ before holds.
     let p = err_from_is_err_and c.from_residual-in_err-read_redo-in-Redo.result c.from_residual-in_err-read_redo-in-Redo.ensures.1 in
     let head = c.in_ok-head.ensures.head before holds.counts in
-    rw (p.1, p.2) (stops_later _ (frame_fault (standing_of c.args.self.now.counts.progress) before) head.0 (c.in_err-read_redo-in-Redo.ensures.item before holds head.1))
+    rw (p.1, p.2) (stops_later _ (frame_fault (standing_of c.args.self.now.counts.standing) before) head.0 (c.in_err-read_redo-in-Redo.ensures.item before holds head.1))
 
 pub returns-in_ok-read_redo-in-Redo-clause-frame : goal.returns-in_ok-read_redo-in-Redo-clause-frame
 returns-in_ok-read_redo-in-Redo-clause-frame g c = λ before holds.
@@ -22,7 +22,7 @@ pub returns-in_err-read_command-in-Command-clause-frame : goal.returns-in_err-re
 returns-in_err-read_command-in-Command-clause-frame g c = λ before holds.
     let p = err_from_is_err_and c.from_residual-in_err-read_command-in-Command.result c.from_residual-in_err-read_command-in-Command.ensures.1 in
     let head = c.in_ok-head.ensures.head before holds.counts in
-    rw (p.1, p.2) (stops_later _ (frame_fault (standing_of c.args.self.now.counts.progress) before) head.0 (c.in_err-read_command-in-Command.ensures.item before holds head.1))
+    rw (p.1, p.2) (stops_later _ (frame_fault (standing_of c.args.self.now.counts.standing) before) head.0 (c.in_err-read_command-in-Command.ensures.item before holds head.1))
 
 pub returns-in_ok-read_command-in-Command-clause-frame : goal.returns-in_ok-read_command-in-Command-clause-frame
 returns-in_ok-read_command-in-Command-clause-frame g c = λ before holds.
@@ -33,7 +33,7 @@ pub returns-in_err-read_schedule-in-Schedule-clause-frame : goal.returns-in_err-
 returns-in_err-read_schedule-in-Schedule-clause-frame g c = λ before holds.
     let p = err_from_is_err_and c.from_residual-in_err-read_schedule-in-Schedule.result c.from_residual-in_err-read_schedule-in-Schedule.ensures.1 in
     let head = c.in_ok-head.ensures.head before holds.counts in
-    rw (p.1, p.2) (stops_later _ (frame_fault (standing_of c.args.self.now.counts.progress) before) head.0 (c.in_err-read_schedule-in-Schedule.ensures.item before holds head.1))
+    rw (p.1, p.2) (stops_later _ (frame_fault (standing_of c.args.self.now.counts.standing) before) head.0 (c.in_err-read_schedule-in-Schedule.ensures.item before holds head.1))
 
 pub returns-in_ok-read_schedule-in-Schedule-clause-frame : goal.returns-in_ok-read_schedule-in-Schedule-clause-frame
 returns-in_ok-read_schedule-in-Schedule-clause-frame g c = λ before holds.
@@ -42,7 +42,7 @@ returns-in_ok-read_schedule-in-Schedule-clause-frame g c = λ before holds.
 
 pub returns-in-End-clause-frame : goal.returns-in-End-clause-frame
 returns-in-End-clause-frame g c = λ before holds.
-    let st = standing_of c.args.self.now.counts.progress in
+    let st = standing_of c.args.self.now.counts.standing in
     let head = c.in_ok-head.ensures.head before holds.counts in
     let len = c.in_ok-head.head.len in
     let good : length_fault st before end_tag len ≡ None = rw c.in-End.is at head.1.length in
@@ -51,7 +51,7 @@ returns-in-End-clause-frame g c = λ before holds.
 
 pub returns-in-Stop-clause-frame : goal.returns-in-Stop-clause-frame
 returns-in-Stop-clause-frame g c = λ before holds.
-    let st = standing_of c.args.self.now.counts.progress in
+    let st = standing_of c.args.self.now.counts.standing in
     let head = c.in_ok-head.ensures.head before holds.counts in
     let len = c.in_ok-head.head.len in
     let good : length_fault st before stop_tag len ≡ None = rw c.in-Stop.is at head.1.length in

@@ -3,7 +3,7 @@ use Rattle.adg_model.specs.Feed.{IsItem, item_bytes, items_bytes, most_payload}
 use Rattle.feed_frames.specs.Intake.{Took}
 use Rattle.feed_frames.specs.Counts.{standing_of}
 use Rattle.feed_frames.proofs.Frames.{length-end, length-stop}
-use Rattle.feed_frames.proofs.Taking.{took_both}
+use Rattle.feed_frames.proofs.IntakeLaws.{took_both}
 use Rattle.feed_frames.proofs.Items.{items_push, bytes_push}
 use Rattle.feed_frames.proofs.delivery.Incoming.read_frames.Goals as goal
 
@@ -11,14 +11,14 @@ pub loop-kind-preserved : goal.loop-kind-preserved
 loop-kind-preserved g c =
     let so_far = c.loop-kind.invariant.read in
     let frame = rw c.in-Ok-Item.field-0-is at c.in-Ok-Item.ensures.frame so_far.0 so_far.1 in
-    let st = standing_of c.args.self.now.counts.progress in
-    let follows : IsItem st so_far.0 frame.0 = rw (← c.loop-kind.invariant.progress) frame.2 in
+    let st = standing_of c.args.self.now.counts.standing in
+    let follows : IsItem st so_far.0 frame.0 = rw (← c.loop-kind.invariant.standing) frame.2 in
     let left = g.R.Source.left in
     let took : Took (left c.args.source.now) (left c.read_frame.new.source) c.args.taken.now c.read_frame.new.taken (items_bytes so_far.0 ++ item_bytes frame.0) =
     took_both _ _ _ _ _ _ (items_bytes so_far.0) (item_bytes frame.0) so_far.3 frame.1 in
     let counted = c.in-Ok-Item.ensures.counted (ap Ok c.in-Ok-Item.field-0-is) in
     record {
-      progress = c.in-Ok-Item.ensures.progress ∙ c.loop-kind.invariant.progress;
+      standing = c.in-Ok-Item.ensures.standing ∙ c.loop-kind.invariant.standing;
       counted = omega (arith, counted, c.loop-kind.invariant.counted);
       cause = c.in-Ok-Item.ensures.cause ∙ c.loop-kind.invariant.cause;
       read = (

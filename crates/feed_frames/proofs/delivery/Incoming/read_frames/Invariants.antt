@@ -8,10 +8,10 @@ use Rattle.feed_frames.proofs.delivery.Incoming.read_frames.Given as goal
 -- some items were read, and the limit on a payload bounds their bytes
 abbrev pub invariant-loop-kind : goal.invariant-loop-kind
 invariant-loop-kind g l = record {
-  progress : l.self.counts.progress ≡ l.initial.self.counts.progress;
+  standing : l.self.counts.standing ≡ l.initial.self.counts.standing;
   counted : l.taken ≤ l.initial.taken + 6 * l.self.counts.payload;
   cause : g.R.Source.faults l.source ≡ g.R.Source.faults l.initial.source;
-  read : (items : List Item) × Holds l.self items × AreItems (standing_of l.initial.self.counts.progress) [] items
+  read : (items : List Item) × Holds l.self items × AreItems (standing_of l.initial.self.counts.standing) [] items
       × Took (g.R.Source.left l.initial.source) (g.R.Source.left l.source) l.initial.taken l.taken (items_bytes items);
 }
 

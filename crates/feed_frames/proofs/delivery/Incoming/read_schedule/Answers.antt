@@ -5,19 +5,19 @@ use Rattle.adg_model.specs.Feed.Item.{Schedules}
 use Rattle.feed_frames.specs.Counts.{standing_of}
 use Rattle.feed_frames.proofs.Items.{schedule_item, schedule_good, gives_none, gives_bytes}
 use Rattle.feed_frames.proofs.Stages.{in_payload}
-use Rattle.feed_frames.proofs.Taking.{took_none}
+use Rattle.feed_frames.proofs.IntakeLaws.{took_none}
 use Rattle.feed_frames.proofs.delivery.Incoming.read_schedule.Goals as goal
 
 pub returns-in_err-take_payload-clause-item : goal.returns-in_err-take_payload-clause-item
 returns-in_err-take_payload-clause-item g c = λ before holds good.
     let p = err_from_is_err_and c.from_residual.result c.from_residual.ensures.1 in
     rw (p.1, p.2) (in_payload [] (record { good_tag = good.tag; good_length = good.length; small = omega arith }) (took_none _ _) c.in_err-take_payload.ensures.took (omega arith)
-    (rw c.requires.tag (schedule_good (standing_of c.args.self.now.counts.progress) before c.in_err-take_payload.ensures.took.bytes)))
+    (rw c.requires.tag (schedule_good (standing_of c.args.self.now.counts.standing) before c.in_err-take_payload.ensures.took.bytes)))
 
 pub returns-clause-item : goal.returns-clause-item
 returns-clause-item g c = λ before holds good.
     let t = c.in_ok-take_payload.ensures.took in
-    let good_length : length_fault (standing_of c.args.self.now.counts.progress) before schedule_tag c.args.head.len ≡ None = rw c.requires.tag at good.length in
+    let good_length : length_fault (standing_of c.args.self.now.counts.standing) before schedule_tag c.args.head.len ≡ None = rw c.requires.tag at good.length in
     record {
       item = Schedules t.bytes;
       took = t.took;

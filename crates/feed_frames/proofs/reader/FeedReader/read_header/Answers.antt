@@ -1,4 +1,4 @@
-use Rattle.feed_frames.proofs.Told.{header_failed}
+use Rattle.feed_frames.proofs.ReaderLaws.{header_failed}
 use Rattle.feed_frames.proofs.reader.FeedReader.read_header.Goals as goal
 
 pub returns-in-Err-clause-header : goal.returns-in-Err-clause-header

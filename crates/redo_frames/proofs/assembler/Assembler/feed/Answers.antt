@@ -2,7 +2,7 @@ use Rattle.std.proofs.Common.{◌∙◌, Option, refl, sym, ap, subst}
 use Rattle.std.specs.Prelude.{IsSome}
 use Rattle.adg_model.specs.declared.fault.FrameKind.{FrameKind}
 use Rattle.redo_frames.specs.Assembly.{Assembly, Holds}
-use Rattle.redo_frames.proofs.Holds.{Holds-again, Holds-gains}
+use Rattle.redo_frames.proofs.AssemblyLaws.{Holds-again, Holds-gains}
 use Rattle.redo_frames.proofs.assembler.Assembler.feed.Goals as goal
 
 pub returns-in-Some-clause-holds : goal.returns-in-Some-clause-holds

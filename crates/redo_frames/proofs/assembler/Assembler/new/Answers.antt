@@ -1,5 +1,5 @@
 use Rattle.std.proofs.Common.{rules}
-use Rattle.redo_frames.proofs.Holds.{Holds-where_empty}
+use Rattle.redo_frames.proofs.AssemblyLaws.{Holds-where_empty}
 use Rattle.redo_frames.proofs.assembler.Assembler.new.Goals as goal
 
 pub returns-clause-holds : goal.returns-clause-holds

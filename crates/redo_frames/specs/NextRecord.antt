@@ -2,8 +2,8 @@
 use Rattle.std.specs.Prelude.{◌≡◌, ℕ, ◌-◌, ◌≤◌, List, [], ◌∷◌, length, take, drop, slice_index, Option, Some, None}
 use Rattle.adg_model.specs.declared.fault.FrameKind.{FrameKind}
 use Rattle.adg_model.specs.Records.{Raw, raw_bytes, AreRaws, Mark, IsPart, record_fault, stated_len, stated_scn}
-use Rattle.redo_frames.specs.declared.front.Front.{Front}
-use Rattle.redo_frames.specs.declared.front.Front.TheVariants.{Part, Whole, Fault}
+use Rattle.redo_frames.specs.declared.next_record.NextRecord.{NextRecord}
+use Rattle.redo_frames.specs.declared.next_record.NextRecord.TheVariants.{Part, Whole, Fault}
 
 -- the record that begins here, where a whole one does
 abbrev pub raw_at : List ℕ → Raw
@@ -21,7 +21,7 @@ abbrev pub Stops : Option FrameKind → Mark → List ℕ → Type 0
 Stops None mark bytes = IsPart bytes × (record_fault mark bytes ≡ None)
 Stops (Some kind) mark bytes = record_fault mark bytes ≡ Some kind
 
-abbrev pub IsFront : Front → Mark → List ℕ → Type 0
-IsFront Part mark bytes = Stops None mark bytes
-IsFront (Whole len scn) mark bytes = Begins mark bytes × (len ≡ stated_len bytes) × (scn ≡ stated_scn bytes)
-IsFront (Fault kind) mark bytes = Stops (Some kind) mark bytes
+abbrev pub IsNextRecord : NextRecord → Mark → List ℕ → Type 0
+IsNextRecord Part mark bytes = Stops None mark bytes
+IsNextRecord (Whole len scn) mark bytes = Begins mark bytes × (len ≡ stated_len bytes) × (scn ≡ stated_scn bytes)
+IsNextRecord (Fault kind) mark bytes = Stops (Some kind) mark bytes

@@ -6,7 +6,7 @@ use Rattle.std.proofs.lemmas.List.{length-take, length-drop}
 use Rattle.std.proofs.lemmas.Nat.{be_bytes_2, be_bytes_8}
 use Rattle.adg_model.specs.Records.{Raw, raw_len, raw_bytes, Mark, stated_len, stated_scn}
 use Rattle.adg_model.proofs.Bytes.{IsBytes, IsBytes-drop, IsBytes-take}
-use Rattle.redo_frames.specs.Front.{raw_at, Begins}
+use Rattle.redo_frames.specs.NextRecord.{raw_at, Begins}
 
 -- what the checks of a whole record find where it passes them
 pub record PassesChecks (mark : Mark) (bytes : List ℕ) : Type 0 where

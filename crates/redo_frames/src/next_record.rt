@@ -1,56 +1,57 @@
 ghost use Rattle.std.specs.Prelude.{◌≡◌, ◌≤◌, ◌<◌, ◌-◌, false, length, take, drop};
 ghost use Rattle.std.specs.Int.{w16, from_be_bytes};
-ghost use Rattle.adg_model.specs.Records.{Mark, mark_of, stated_len, stated_scn, first_mark};
-ghost use Rattle.redo_frames.specs.Front.{IsFront};
+ghost use Rattle.adg_model.specs.Records.{mark_of, stated_len, stated_scn, first_mark};
+ghost use Rattle.redo_frames.specs.NextRecord.{IsNextRecord};
 
 use crate::number::{first_u16, first_u64};
-use crate::record::{Frame, OVERHEAD};
+use crate::record::HeldRecord;
 use adg_base::number::Scn;
 use adg_model::fault::FrameKind;
+use adg_model::record::RECORD_OVERHEAD;
 use std::marker::Model;
 
 /// Where a thread stands: the SCN of its last record, 0 before the first, and whether it has ended.
 #[derive(Clone, Copy, Debug)]
-pub struct Standing {
+pub struct Mark {
     scn: u64,
     ended: bool,
 }
 
-impl Model for Standing {
-    ghost use Rattle.adg_model.specs.Records.{Mark};
+impl Model for Mark {
+    ghost use Rattle.adg_model.specs.Records.{Mark as Shown};
 
-    ghost Value = { Mark };
+    ghost Value = { Shown };
 
     ghost view = { λ s. record { scn = s.scn; ended = s.ended } };
 
     ghost inverse = { λ m. record { scn = m.scn; ended = m.ended } };
 }
 
-impl Standing {
+impl Mark {
     /// Before the first record.
-    pub fn at_start() -> Standing
+    pub fn at_start() -> Mark
         ensures { result ≡ first_mark }
     {
-        Standing {
+        Mark {
             scn: 0,
             ended: false,
         }
     }
 
     /// After this record.
-    pub fn after(frame: &Frame) -> Standing
-        ensures { result ≡ mark_of frame.now }
+    pub fn after(last: &HeldRecord) -> Mark
+        ensures { result ≡ mark_of last.now }
     {
-        Standing {
-            scn: frame.scn().get(),
-            ended: frame.is_end(),
+        Mark {
+            scn: last.scn().get(),
+            ended: last.is_end(),
         }
     }
 }
 
 /// What the first bytes of a text are.
 #[derive(Debug, Drop)]
-pub enum Front {
+pub enum NextRecord {
     /// Less than a whole record, with nothing wrong so far.
     Part,
     /// A whole record with nothing wrong, of this length.
@@ -59,29 +60,30 @@ pub enum Front {
     Fault(FrameKind),
 }
 
-/// What the first bytes are, where the thread stands so.
+/// What the first bytes are, where the thread stands so. Each check needs what the one before it
+/// shows: a whole record is looked at only once its length is good.
 #[tactic(auto, using(adg_model::proofs::RecordsFault::fault_after_end, adg_model::proofs::RecordsFault::fault_nothing, adg_model::proofs::RecordsFault::fault_begun, adg_model::proofs::RecordsFault::fault_length, adg_model::proofs::RecordsFault::fault_part))]
-pub fn look_at(standing: Standing, bytes: &[u8]) -> Front
-    ensures { IsFront result standing bytes.now }
+pub fn look_at(mark: Mark, bytes: &[u8]) -> NextRecord
+    ensures { IsNextRecord result mark bytes.now }
 {
-    if standing.ended {
+    if mark.ended {
         return if bytes.is_empty() {
-            Front::Part
+            NextRecord::Part
         } else {
-            Front::Fault(FrameKind::AfterEnd)
+            NextRecord::Fault(FrameKind::AfterEnd)
         };
     }
     if bytes.len() < 2 {
-        return Front::Part;
+        return NextRecord::Part;
     }
     let len = usize::from(first_u16(bytes));
-    if len < OVERHEAD {
-        return Front::Fault(FrameKind::BadLength);
+    if len < RECORD_OVERHEAD {
+        return NextRecord::Fault(FrameKind::BadLength);
     }
     if bytes.len() < len {
-        return Front::Part;
+        return NextRecord::Part;
     }
-    whole(standing, bytes, len)
+    whole(mark, bytes, len)
 }
 
 /// The number in the place of a record's SCN.
@@ -103,25 +105,25 @@ fn trailer(bytes: &[u8], len: usize) -> u16
 
 /// What a whole record of this length is.
 #[tactic(auto, using(adg_model::proofs::RecordsFault::fault_whole, adg_model::proofs::RecordsFault::whole_trailer, adg_model::proofs::RecordsFault::whole_range, adg_model::proofs::RecordsFault::whole_order))]
-fn whole(standing: Standing, bytes: &[u8], len: usize) -> Front
-    requires open_thread { standing.ended ≡ false }
+fn whole(mark: Mark, bytes: &[u8], len: usize) -> NextRecord
+    requires open_thread { mark.ended ≡ false }
     requires stated { len ≡ stated_len bytes.now }
     requires long { 13 ≤ len }
     requires whole { len ≤ length bytes.now }
-    ensures { IsFront result standing bytes.now }
+    ensures { IsNextRecord result mark bytes.now }
 {
     if usize::from(trailer(bytes, len)) != len {
-        return Front::Fault(FrameKind::BadTrailer);
+        return NextRecord::Fault(FrameKind::BadTrailer);
     }
     let number = scn_number(bytes);
     let Some(scn) = Scn::new(number) else {
-        return Front::Fault(FrameKind::ScnRange);
+        return NextRecord::Fault(FrameKind::ScnRange);
     };
     if number == 0 {
-        return Front::Fault(FrameKind::ScnRange);
+        return NextRecord::Fault(FrameKind::ScnRange);
     }
-    if number <= standing.scn {
-        return Front::Fault(FrameKind::ScnOrder);
+    if number <= mark.scn {
+        return NextRecord::Fault(FrameKind::ScnOrder);
     }
-    Front::Whole { len, scn }
+    NextRecord::Whole { len, scn }
 }

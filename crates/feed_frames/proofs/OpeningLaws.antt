@@ -12,7 +12,7 @@ use Rattle.feed_frames.specs.Answers.{MagicStops}
 use Rattle.feed_frames.specs.Counts.{IsShown}
 use Rattle.feed_frames.specs.Frames.{StopsAfter}
 use Rattle.feed_frames.specs.Opening.{MagicMissing, NoOpening}
-use Rattle.feed_frames.proofs.Taking.{took_both}
+use Rattle.feed_frames.proofs.IntakeLaws.{took_both}
 use Rattle.feed_frames.proofs.Faults.{missing_stops, shown_stops, then_none, none_first}
 use Rattle.feed_frames.proofs.Stages.{no_length, cut_payload}
 

@@ -8,7 +8,7 @@ use Rattle.adg_model.proofs.LogLaws.{mark_after-append}
 use Rattle.adg_model.proofs.RecordsSplit.{FailsFrom-append}
 use Rattle.redo_frames.specs.Reading.{Stands, Gains}
 use Rattle.redo_frames.specs.Assembly.{Assembly, Holds, empty}
-use Rattle.redo_frames.proofs.Steps.{Stands-then}
+use Rattle.redo_frames.proofs.ReadingLaws.{Stands-then}
 
 Holds-empty : Holds empty [] []
 Holds-empty = record {

@@ -10,11 +10,11 @@ use Rattle.adg_model.proofs.RecordsSpelled.{length-raw_bytes}
 use Rattle.adg_model.proofs.RecordsFault.{fault_nothing, fault_begun}
 use Rattle.adg_model.proofs.LogLaws.{mark_after-append}
 use Rattle.adg_model.proofs.RecordsSplit.{AreRaws-append, record_fault-append, SplitsFrom-then, SplitsFrom-then_fails}
-use Rattle.redo_frames.specs.Front.{raw_at, Begins, Stops}
-use Rattle.redo_frames.specs.Reading.{Stands, Reads, Gains, BeginsWith}
+use Rattle.redo_frames.specs.NextRecord.{raw_at, Begins, Stops}
+use Rattle.redo_frames.specs.Reading.{Stands, Reads, Gains, IsPrefix}
 
-pub BeginsWith-append : {X : Type 0} (front more all : List X) → all ≡ front ++ more → BeginsWith front all
-BeginsWith-append {X = X} front more all e = ap (λ (l : List X). take (length front) l) e ∙ take_at front more (length front) refl
+pub IsPrefix-append : {X : Type 0} (front more all : List X) → all ≡ front ++ more → IsPrefix front all
+IsPrefix-append {X = X} front more all e = ap (λ (l : List X). take (length front) l) e ∙ take_at front more (length front) refl
 
 pub Reads-none : (held : List Raw) (mark : Mark) → Reads held held mark mark []
 Reads-none held mark = record { more = []; added = sym (append-nil held); spelled = refl; follow = tt; mark = refl }
@@ -146,10 +146,10 @@ Gains-whole fault before held after from mark to old piece rest unread used e h 
       stands = subst (λ (t : List ℕ). Stands fault from t (r ∷ p.more) unread) text stands;
     }
 
-pub BeginsWith-shorter : {X : Type 0} (front more all : List X) → BeginsWith (front ++ more) all → BeginsWith front all
-BeginsWith-shorter {X = X} front more all h =
+pub IsPrefix-shorter : {X : Type 0} (front more all : List X) → IsPrefix (front ++ more) all → IsPrefix front all
+IsPrefix-shorter {X = X} front more all h =
     let n = length (front ++ more) in
-    BeginsWith-append front (more ++ drop n all) all
+    IsPrefix-append front (more ++ drop n all) all
     (sym (take-append-drop n all) ∙ ap (λ (l : List X). l ++ drop n all) h ∙ append_assoc front more (drop n all))
 
 -- a record that was less than whole and now is whole ends where its bytes end
