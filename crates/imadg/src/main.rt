@@ -1,6 +1,9 @@
 //! The program `imadg`: it answers the feed on standard input to standard output.
 #![tactic(auto)]
 
+ghost use Rattle.std.specs.Prelude.{◌≡◌, drop};
+ghost use Rattle.std.specs.Process.{exit_status};
+
 use adg_io::gate::OpenGate;
 use adg_io::standard::{StdSink, StdSource};
 use imadg_top::{Status, standby};
@@ -10,29 +13,46 @@ use std::io::ErrorKind;
 use std::process::ExitCode;
 use std::rt::Env;
 
-/// The words of the command line without the program's name. Where one of them is no UTF-8 there
-/// are none: neither is an accepted line.
-fn words<H: Env + Alloc<A = Global>>(rt: &H) -> Result<Vec<String>, AllocError> {
+/// The arguments, the program's name first. Where one of them is no UTF-8 there are none: neither is
+/// an accepted line.
+fn arguments<H: Env + Alloc<A = Global>>(rt: &H) -> Result<Vec<String>, AllocError> {
     match env::args(rt) {
-        Ok(words) => words.skip(1).collect(rt.alloc()),
+        Ok(arguments) => arguments.collect(rt.alloc()),
         Err(error) if error.kind() == ErrorKind::OutOfMemory => Err(AllocError),
         Err(_) => Ok(Vec::new(rt.alloc())),
     }
 }
 
+/// The words of the command line: the arguments without the program's name.
+fn words(arguments: &[String]) -> &[String]
+    ensures { result.now ≡ drop 1 arguments.now }
+{
+    match arguments {
+        [] => arguments,
+        [_name, words @ ..] => words,
+    }
+}
+
+/// What the system is told of a status.
+fn exit_code(status: u8) -> ExitCode
+    ensures { exit_status result ≡ status }
+{
+    ExitCode::from(status)
+}
+
 fn main(rt: HostRuntime) -> ExitCode {
-    let Ok(words) = words(&rt) else {
-        return ExitCode::from(Status::NoMemory.code());
+    let Ok(arguments) = arguments(&rt) else {
+        return exit_code(Status::NoMemory.code());
     };
     let mut source = StdSource::new(rt.stdin());
     let mut sink = StdSink::new(rt.stdout());
     let outcome = standby(
         &rt,
         rt.alloc(),
-        words.as_slice(),
+        words(arguments.as_slice()),
         &mut source,
         &mut sink,
         &OpenGate,
     );
-    ExitCode::from(outcome.status)
+    exit_code(outcome.status)
 }

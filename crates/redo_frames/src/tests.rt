@@ -115,37 +115,34 @@ fn refuses_the_first_bad_record(rt: HostRuntime) {
 
 /// The record of this length and SCN whose vectors are zeros.
 fn record_of(alloc: Global, len: u16, scn: u64, count: u8) -> Result<Vec<u8>, Fail> {
-    let mut bytes = vec![in alloc; 0; 65_535]?;
-    bytes.truncate(usize::from(len));
-    let (low, high) = (len.to_be_bytes(), scn.to_be_bytes());
-    if bytes.len() >= 13 {
-        let end = bytes.len() - 2;
-        bytes[..2].copy_from_slice(&low);
-        bytes[2..10].copy_from_slice(&high);
-        bytes[10] = count;
-        bytes[end..].copy_from_slice(&low);
-    }
+    let mut bytes = Vec::from_slice(alloc, &len.to_be_bytes())?;
+    bytes.extend_from_slice(&scn.to_be_bytes())?;
+    bytes.push(count)?;
+    bytes.resize(usize::from(len).saturating_sub(2), 0)?;
+    bytes.extend_from_slice(&len.to_be_bytes())?;
     Ok(bytes)
 }
 
 #[test]
 fn takes_records_at_each_limit(rt: HostRuntime) -> Result<(), Fail> {
-    for (name, len, scn, count, piece) in [
+    for (name, len, scn, count, cut) in [
         ("the least", 13, 1, 0, 13),
         ("the longest", 65_535, 281_474_976_710_655, 255, 65_535),
-        ("the longest in pieces", 65_535, 1, 255, 4_096),
-        ("the longest in bytes", 65_535, 1, 1, 1),
+        ("the longest behind a byte", 65_535, 1, 255, 1),
+        ("the longest behind its head", 65_535, 1, 255, 11),
+        ("the longest but for a byte", 65_535, 1, 1, 65_534),
     ] {
         let bytes = record_of(rt.alloc(), len, scn, count)?;
+        assert!(rt; bytes.len() < 100_000, "{name}");
+        let (first, second) = bytes.as_slice().split_at_checked(cut).ok_or("a cut")?;
         let mut assembler = Assembler::new(rt.alloc());
-        for piece in bytes.as_slice().chunks(piece) {
-            assert!(rt;
-                piece.len() < 100_000 && assembler.check().is_ok(),
-                "{name}"
-            );
-            assert!(rt; assembler.feed(piece).is_ok(), "{name}");
-        }
-        let body = &bytes.as_slice()[11..usize::from(len) - 2];
+        assert!(rt; assembler.check().is_ok(), "{name}");
+        assert!(rt; assembler.feed(first).is_ok(), "{name}");
+        assert!(rt; assembler.feed(second).is_ok(), "{name}");
+        let body = bytes
+            .as_slice()
+            .get(11..usize::from(len).saturating_sub(2))
+            .ok_or("a body")?;
         assert!(rt; is_record(&assembler.take(), 1, scn, count, body), "{name}");
         assert!(rt; assembler.is_between_records(), "{name}");
     }
