@@ -139,6 +139,7 @@ impl Incoming {
         ensures counted { OnOk result (taken.new ≡ taken.old + head.len) }
         ensures cause { HasCauseIn result (R.faults source.old) (R.faults source.new) }
     {
+        // Judged before more is read: no byte is taken behind the one that shows the fault.
         let thread = take_byte(source, taken)?;
         self.counts.check_thread(thread)?;
         let mut bytes = Vec::new(alloc);
@@ -164,6 +165,7 @@ impl Incoming {
         ensures counted { OnOk result (taken.new ≡ taken.old + head.len) }
         ensures cause { HasCauseIn result (R.faults source.old) (R.faults source.new) }
     {
+        // Judged before more is read: no byte is taken behind the one that shows the fault.
         let session = take_byte(source, taken)?;
         self.counts.check_session(session)?;
         let mut text = Vec::new(alloc);

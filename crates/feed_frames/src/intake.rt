@@ -96,6 +96,7 @@ fn take_onto<R: Source>(
     ensures cause { HasCauseIn result (R.faults source.old) (R.faults source.new) }
 {
     let start = into.len();
+    // Room is taken before any byte is: on want of memory the source stands where it stood.
     into.resize(start + wanted, 0)?;
     take_piece(source, taken, &mut into[start..])
 }
