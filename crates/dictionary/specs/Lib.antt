@@ -1,0 +1,6 @@
+pub mod Defined
+pub mod Pending
+pub mod Transactions
+pub mod History
+pub mod Objects
+pub mod Standing
