@@ -1,4 +1,3 @@
-pub mod Defined
 pub mod Pending
 pub mod Transactions
 pub mod History

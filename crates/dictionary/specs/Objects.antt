@@ -6,7 +6,7 @@ use Rattle.std.specs.Map.{lookup}
 use Rattle.adg_base.specs.declared.log.LogEntry.{LogEntry}
 use Rattle.adg_model.specs.Database.{database, table_at}
 use Rattle.dictionary.specs.declared.history.Step.{Step}
-use Rattle.dictionary.specs.Defined.{AreDefined}
+use Rattle.adg_model.specs.Defined.{AreDefined}
 use Rattle.dictionary.specs.History.{last_from, defined_from}
 
 abbrev pub steps_of : List (ℕ × List Step) → ℕ → List Step

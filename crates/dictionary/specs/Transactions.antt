@@ -1,5 +1,5 @@
 -- The transactions of a dictionary.
-use Rattle.std.specs.Prelude.{◌≡◌, ℕ, Bool, false, not, nat_eq, ◌&&◌, ◌||◌, List, Option, Some, None, is_some, count_by}
+use Rattle.std.specs.Prelude.{◌≡◌, ℕ, Bool, false, not, nat_eq, ◌&&◌, ◌||◌, ◌+◌, if◌then◌else◌, List, [], ◌∷◌, Option, Some, None, is_some}
 use Rattle.std.specs.List.{list_any}
 use Rattle.std.specs.Map.{lookup}
 use Rattle.adg_base.specs.Address.{Place}
@@ -32,7 +32,8 @@ latest_of (Some running) = running.latest
 
 -- how many changes there are at a place
 abbrev pub count_at : Place → List Played → ℕ
-count_at place changes = count_by (λ c. same_place place c.at) changes
+count_at place [] = 0
+count_at place (c ∷ cs) = if same_place place c.at then count_at place cs + 1 else count_at place cs
 
 -- The transactions are those that were begun. The running ones are kept with their notes and the
 -- numbers of their pending changes, and each change is on the chain of its transaction.
@@ -40,7 +41,7 @@ pub record Tracks (held : Held) (was_begun has_ended was_noted : ℕ → Bool) (
   pub begun : (txn : ℕ) → was_begun txn ≡ (is_some (running_at held txn) || is_ended held txn)
   pub running : (txn : ℕ) → is_some (running_at held txn) ≡ (was_begun txn && not (has_ended txn))
   pub noted : (txn : ℕ) → IsNoted (running_at held txn) (was_noted txn)
-  pub fresh : (txn : ℕ) → was_begun txn ≡ false → was_noted txn ≡ false
+  pub fresh : (txn : ℕ) → was_begun txn ≡ false → (has_ended txn ≡ false) × (was_noted txn ≡ false)
   pub counts : (txn : ℕ) (place : Place) → count_of (kept_at held.pending (change_of txn place)) ≡ count_at place (changes txn)
   pub chains : (txn : ℕ) → HasChain (earlier_at held.pending txn) (latest_of (running_at held txn))
 

@@ -7,7 +7,7 @@ use adg_base::address::Addr;
 use adg_base::definition::{Definition, MOST_COLUMNS};
 use adg_base::log::LogEntry;
 use adg_base::number::{Obj, Scn, Txn};
-use adg_base::value::{ColKind, Row};
+use adg_base::row::Row; use adg_base::value::ColKind;
 use adg_base::vector::Vector;
 use adg_model::fault::CheckKind;
 use std::alloc::Global;

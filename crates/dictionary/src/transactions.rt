@@ -1,9 +1,10 @@
-ghost use Rattle.std.specs.Prelude.{◌≡◌, true, false, ◌||◌, is_some, OnOk, OnErr};
-ghost use Rattle.adg_model.specs.Database.{Database, Change as Played, has_change, with_change, with_end};
+ghost use Rattle.std.specs.Prelude.{◌≡◌, ℕ, true, false, cond, nat_eq, List, Option, is_some, Some, OnOk, OnErr};
+ghost use Rattle.adg_base.specs.declared.value.Value.{Value as Cell};
+ghost use Rattle.adg_model.specs.Database.{Database, has_change, with_change, with_end};
 ghost use Rattle.adg_model.specs.Database as model;
 ghost use Rattle.adg_model.specs.Sound as sound;
 ghost use Rattle.adg_base.specs.declared.vector.Vector.TheVariants.{Begin, Undo};
-ghost use Rattle.dictionary.specs.Transactions.{Tracks, TracksIn, is_ended, running_at};
+ghost use Rattle.dictionary.specs.Transactions.{TracksIn, running_at};
 
 use crate::change::{Change, Running};
 use crate::pending::PendingChanges;
@@ -89,8 +90,8 @@ impl Transactions {
 
     /// Adds a pending change of a running transaction; the flag says whether the object is in-memory.
     pub fn change(&mut self, txn: Txn, addr: Addr, in_memory: bool) -> Result<(), Memory>
-        ensures ok { OnOk result ((db : Database) (change : Played) → TracksIn self.old db → sound.is_running db txn ≡ true
-            → change.at ≡ addr → in_memory ≡ model.is_in_memory (db.tables addr.obj) → TracksIn self.new (with_change db txn change)) }
+        ensures ok { OnOk result ((db : Database) (row : Option (List Cell)) → TracksIn self.old db → sound.is_running db txn ≡ true
+            → in_memory ≡ model.is_in_memory (db.tables addr.obj) → TracksIn self.new (with_change db txn (record { at = addr; row = row }))) }
         ensures err { OnErr result (self.new ≡ self.old) }
     {
         let Some(running) = self.running.get(&txn).copied() else {
@@ -104,7 +105,12 @@ impl Transactions {
     }
 
     /// Keeps something else of a running transaction.
-    fn keep(&mut self, txn: Txn, running: Running) {
+    fn keep(&mut self, txn: Txn, running: Running)
+        ensures running { is_some (running_at self.old txn) ≡ true →
+            (q : ℕ) → running_at self.new q ≡ cond (nat_eq txn q) (Some running) (running_at self.old q) }
+        ensures ended { self.new.ended ≡ self.old.ended }
+        ensures pending { self.new.pending ≡ self.old.pending }
+    {
         if let Some(kept) = self.running.get_mut(&txn) {
             *kept = running;
         }

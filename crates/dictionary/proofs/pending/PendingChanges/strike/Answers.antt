@@ -1,8 +1,23 @@
-use Rattle.std.proofs.Common.{rules, ◌≡◌, ℕ, List, [], cond, nat_eq, nat_lt, Some, None, is_some, not, IfOk, OnOk, OnErr}
-use Rattle.dictionary.specs.Pending.{kept_at, count_of, earlier_at, one_more, one_less, SetsAt, HasChain}
+use Rattle.std.proofs.Common.{◌≡◌, Some, refl, ap, ◌∙◌, is_some, sym}
+use Rattle.dictionary.specs.declared.change.Pending.{Pending}
+use Rattle.dictionary.specs.Pending.{kept_at}
+use Rattle.dictionary.proofs.Counts.{sets_as_it_was, sets_in_its_place, one_less_than}
 use Rattle.dictionary.proofs.pending.PendingChanges.strike.Goals as goal
 use Rattle.dictionary.proofs.pending.PendingChanges.strike.Goals.{in-Some, in_default}
-use Rattle.dictionary.proofs.Chains.{HasChain-known}
 
 pub returns : goal.returns
-returns c = elim c.match-get_mut.branch [ in-Some w ↦ (let h = w.self-inside-is in let k = c.get_mut.follows in let j = w.saturating_sub-pending in let i = w.in-Some in ?) | in_default w ↦ (let h = w.self-inside-is in let i = w.in_default in ?) ]
+returns c =
+    let old = c.args.self.now in
+    let inside = c.self.inside.kept.entries in
+    let new = c.match-get_mut.self-inside.kept.entries in
+    let change = c.args.change in
+    elim c.match-get_mut.branch [
+    in-Some w ↦ (
+    let was = w.in-Some.pending.now in
+    let had : Some was ≡ kept_at inside change = w.in-Some.ensures.value in
+    let put : Pending = record was { count = w.saturating_sub-pending.result } in
+    let lent = c.get_mut.follows.holds put in
+    sets_in_its_place old inside new change (Some put) _ c.self.view_is (rw w.self-inside-is (lent.3 (ap is_some (sym had))).0) (one_less_than old inside change was _ c.self.view_is had w.saturating_sub-pending.ensures))
+    | in_default w ↦ (
+    let same : new ≡ inside = rw (w.self-inside-is, c.get_mut.follows.holds-at-none) refl in
+    sets_as_it_was old inside new change c.self.view_is same (sym w.in_default.ensures.value)) ]

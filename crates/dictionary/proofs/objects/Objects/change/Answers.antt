@@ -1,0 +1,8 @@
+use Rattle.std.proofs.Common.{◌≡◌, sym, ap, ◌∙◌}
+use Rattle.dictionary.proofs.objects.Objects.change.Goals as goal
+
+pub returns-clause-ok : goal.returns-clause-ok
+returns-clause-ok c = ?
+
+pub returns-clause-err : goal.returns-clause-err
+returns-clause-err c = ?
