@@ -57,11 +57,11 @@ impl History {
     }
 
     /// Adds the definition that an entry of this SCN made.
-    pub fn push(&mut self, step: Step) -> Result<(), Memory>
-        ensures ok { OnOk result (self.new ≡ self.old ++ step ∷ []) }
+    pub fn push(&mut self, scn: Scn, definition: Option<Definition>) -> Result<(), Memory>
+        ensures ok { OnOk result (self.new ≡ self.old ++ record { scn = scn; definition = definition } ∷ []) }
         ensures err { OnErr result (self.new ≡ self.old) }
     {
-        self.steps.push(step)?;
+        self.steps.push(Step { scn, definition })?;
         Ok(())
     }
 }

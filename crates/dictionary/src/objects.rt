@@ -5,7 +5,7 @@ ghost use Rattle.std.specs.List.Sorted.{IsNonDecreasingBy};
 ghost use Rattle.dictionary.specs.History.{last_from, defined_from};
 ghost use Rattle.dictionary.specs.Objects.{steps_of, AddsStep};
 
-use crate::history::{History, Step};
+use crate::history::History;
 use adg_base::definition::Definition;
 use adg_base::memory::Memory;
 use adg_base::number::{Obj, Scn};
@@ -62,23 +62,23 @@ impl Objects {
     }
 
     /// Begins the history of an object that was not created.
-    pub fn create(&mut self, obj: Obj, step: Step) -> Result<(), Memory>
-        ensures ok { OnOk result (lookup (nat_eq obj) self.old ≡ None → AddsStep self.old self.new obj step) }
+    pub fn create(&mut self, obj: Obj, scn: Scn, definition: Option<Definition>) -> Result<(), Memory>
+        ensures ok { OnOk result (lookup (nat_eq obj) self.old ≡ None → AddsStep self.old self.new obj (record { scn = scn; definition = definition })) }
         ensures err { OnErr result (self.new ≡ self.old) }
     {
         let mut history = History::new(self.alloc);
-        history.push(step)?;
+        history.push(scn, definition)?;
         self.histories.insert(obj, history)?;
         Ok(())
     }
 
     /// Adds to the history of an object that was created.
-    pub fn change(&mut self, obj: Obj, step: Step) -> Result<(), Memory>
-        ensures ok { OnOk result (is_some (lookup (nat_eq obj) self.old) ≡ true → AddsStep self.old self.new obj step) }
+    pub fn change(&mut self, obj: Obj, scn: Scn, definition: Option<Definition>) -> Result<(), Memory>
+        ensures ok { OnOk result (is_some (lookup (nat_eq obj) self.old) ≡ true → AddsStep self.old self.new obj (record { scn = scn; definition = definition })) }
         ensures err { OnErr result (self.new ≡ self.old) }
     {
         match self.histories.get_mut(&obj) {
-            Some(history) => history.push(step),
+            Some(history) => history.push(scn, definition),
             None => Ok(()),
         }
     }
