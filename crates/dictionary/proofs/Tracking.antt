@@ -15,7 +15,7 @@ use Rattle.dictionary.proofs.Chains.{same_place-true, same_place-refl, HasChain-
 use Rattle.dictionary.proofs.Counts.{same_change-place, same_change-at}
 
 -- what holds of one transaction, and of those that are not that one, holds of all
-by_name : (P : ℕ → Type 0) (txn : ℕ) → P txn → ((q : ℕ) → nat_eq txn q ≡ false → P q) → (q : ℕ) → P q
+pub by_name : (P : ℕ → Type 0) (txn : ℕ) → P txn → ((q : ℕ) → nat_eq txn q ≡ false → P q) → (q : ℕ) → P q
 by_name P txn here others q = by_test (nat_eq txn q) refl
   where
     by_test : (b : Bool) → nat_eq txn q ≡ b → P q
