@@ -3,3 +3,4 @@ pub mod Transactions
 pub mod History
 pub mod Objects
 pub mod Standing
+pub mod Checks

@@ -41,11 +41,3 @@ abbrev pub IsAnswer : {T : Type 0} → Result T RedoRefused → Option CheckKind
 IsAnswer (Ok done) refused = refused ≡ None
 IsAnswer (Err (Check check)) refused = refused ≡ Some check
 IsAnswer (Err Memory) refused = Unit {0}
-
--- An entry with this SCN and this vector was checked: the answer is what the definition of a sound log
--- finds, an accepted entry is taken up, and a refused one changes nothing.
-pub record Checks {T : Type 0} (old new : Known) (scn : ℕ) (vector : Vector) (result : Result T RedoRefused) : Type 0 where
-  pub answer : (log : List LogEntry) → StandsFor old log → IsAnswer result (refusal (database log) vector)
-  pub accepted : OnOk result ((log : List LogEntry) (entry : LogEntry) → StandsFor old log → MayFollow log entry
-      → entry.scn ≡ scn → entry.vector ≡ vector → StandsFor new (log ++ entry ∷ []))
-  pub unchanged : OnErr result (new ≡ old)

@@ -3,6 +3,7 @@
 #![tactic(auto)]
 
 mod change;
+mod definition;
 mod dictionary;
 mod history;
 mod objects;
