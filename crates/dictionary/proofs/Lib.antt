@@ -4,3 +4,4 @@ pub mod Tracking
 pub mod Steps
 pub mod Catalogs
 pub mod Rows
+pub mod Follows

@@ -22,10 +22,10 @@ by_name P txn here others q = by_test (nat_eq txn q) refl
     by_test true e = subst P (eqb-true txn q e) here
     by_test false e = others q e
 
-set_at-here : {X : Type 0} (k : ℕ) (x : X) (f : ℕ → X) → set_at k x f k ≡ x
+pub set_at-here : {X : Type 0} (k : ℕ) (x : X) (f : ℕ → X) → set_at k x f k ≡ x
 set_at-here k x f = cond-true (nat_eq k k) x (f k) (eq-eqb k k refl)
 
-set_at-apart : {X : Type 0} (k : ℕ) (x : X) (f : ℕ → X) (q : ℕ) → nat_eq k q ≡ false → set_at k x f q ≡ f q
+pub set_at-apart : {X : Type 0} (k : ℕ) (x : X) (f : ℕ → X) (q : ℕ) → nat_eq k q ≡ false → set_at k x f q ≡ f q
 set_at-apart k x f q apart = cond-false (nat_eq q k) x (f q) (ne_eqb q k (λ e. eqb-false k q apart (sym e)))
 
 sets-here : {X : Type 0} (k : ℕ) (x y : X) → cond (nat_eq k k) x y ≡ x

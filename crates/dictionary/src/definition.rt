@@ -1,4 +1,4 @@
-ghost use Rattle.std.specs.Prelude.{◌≡◌, ℕ, ◌≤◌, List, ◌∷◌, [], ◌++◌, false, true, nat_lt, length, MatchOption};
+ghost use Rattle.std.specs.Prelude.{◌≡◌, ℕ, ◌+◌, ◌<◌, ◌≤◌, List, ◌∷◌, [], ◌++◌, false, true, nat_lt, length, take, MatchOption};
 ghost use Rattle.adg_model.specs.Database.{Table, place};
 ghost use Rattle.adg_model.specs.Defined.{IsDefinition};
 ghost use Rattle.adg_model.specs.Sound.{has_address};
@@ -31,8 +31,10 @@ pub fn definition_of(obj: Obj, extents: u16, flag: bool, columns: &[ColKind]) ->
 pub fn kinds_of(definition: &Definition) -> &[ColKind]
     ensures { (obj : ℕ) (table : Table) → IsDefinition obj table definition.now → result.now ≡ table.kinds }
 {
-    let width = usize::from(definition.width).min(MOST_COLUMNS);
-    &definition.kinds[..width]
+    match definition.kinds.get(..usize::from(definition.width)) {
+        Some(kinds) => kinds,
+        None => &definition.kinds,
+    }
 }
 
 /// The address of a slot of a block of the object, where it has one.
@@ -47,6 +49,20 @@ pub fn address_in(definition: &Definition, block: u16, slot: u8) -> Option<Addr>
     }
 }
 
+/// The kinds with this one behind the first `width`.
+fn with_kind(
+    kinds: &[ColKind; MOST_COLUMNS],
+    width: usize,
+    kind: ColKind,
+) -> [ColKind; MOST_COLUMNS]
+    requires { width < 16 }
+    ensures { take (width + 1) result ≡ take width kinds.now ++ kind ∷ [] }
+{
+    let mut wider = *kinds;
+    wider[width] = kind;
+    wider
+}
+
 /// The definition with one column more; None where it has as many as an object may have.
 pub fn with_column(definition: &Definition, kind: ColKind) -> Option<Definition>
     ensures { (obj : ℕ) (table : Table) → IsDefinition obj table definition.now →
@@ -57,10 +73,11 @@ pub fn with_column(definition: &Definition, kind: ColKind) -> Option<Definition>
     if width >= MOST_COLUMNS {
         return None;
     }
-    let mut wider = *definition;
-    wider.kinds[width] = kind;
-    wider.width += 1;
-    Some(wider)
+    Some(Definition {
+        kinds: with_kind(&definition.kinds, width, kind),
+        width: definition.width + 1,
+        ..*definition
+    })
 }
 
 /// The definition of the object when it is no longer in-memory.

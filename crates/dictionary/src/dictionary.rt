@@ -184,8 +184,8 @@ impl Dictionary {
         ensures accepted { OnOk result ((scn : ℕ) → TakesUp self.old self.new scn (Undo txn obj block slot)) }
         ensures unchanged { OnErr result (self.new ≡ self.old) }
     {
-        let addr = match self.place_of(txn, obj, block, slot) {
-            Ok((addr, _)) => addr,
+        let (addr, _) = match self.place_of(txn, obj, block, slot) {
+            Ok(found) => found,
             Err(refused) => return Err(refused),
         };
         if !self.transactions.has_pending(txn, addr) {
@@ -251,9 +251,9 @@ impl Dictionary {
         ensures accepted { OnOk result (TakesUp self.old self.new scn (Drops obj)) }
         ensures unchanged { OnErr result (self.new ≡ self.old) }
     {
-        if self.objects.latest(obj).is_none() {
+        let Some(_definition) = self.objects.latest(obj) else {
             return Err(RedoRefused::Check(CheckKind::NoObject));
-        }
+        };
         self.objects.change(obj, scn, None)?;
         Ok(())
     }
