@@ -84,10 +84,10 @@ describes-step steps log obj e definition h scns made =
     let step : Step = record { scn = e.scn; definition = definition } in
     record {
       latest =
-        subst (λ (db : Database). AreDefined obj (db.tables obj) (last_from None (steps ++ step ∷ []))) (sym (database-push log e))
-        (subst (AreDefined obj ((after (database log) e.vector).tables obj)) (sym (last_from-push None steps step)) made);
+          subst (λ (db : Database). AreDefined obj (db.tables obj) (last_from None (steps ++ step ∷ []))) (sym (database-push log e))
+          (subst (AreDefined obj ((after (database log) e.vector).tables obj)) (sym (last_from-push None steps step)) made);
       at = λ scn. subst (λ (t : Option Table). AreDefined obj t (defined_from None scn (steps ++ step ∷ []))) (sym (table_at-push log e scn obj scns))
-        (subst (AreDefined obj (cond (nat_le e.scn scn) ((after (database log) e.vector).tables obj) (table_at log scn obj))) (sym (defined_from-push None scn steps step))
+          (subst (AreDefined obj (cond (nat_le e.scn scn) ((after (database log) e.vector).tables obj) (table_at log scn obj))) (sym (defined_from-push None scn steps step))
           (by_test scn (nat_le e.scn scn)));
       ordered = IsNonDecreasingBy-push (λ (s : Step). s.scn) steps step h.ordered (λ d some. last_within (λ (s : Step). s.scn ≤ e.scn) steps (length steps - 1) d (h.within e.scn scns) (omega arith));
       within = λ scn all. let k = each-last (λ (x : LogEntry). x.scn ≤ scn) log e all in each_step-push (λ (s : Step). s.scn ≤ scn) steps step (h.within scn k.0) k.1;
@@ -103,7 +103,7 @@ describes-same : (steps : List Step) (log : List LogEntry) (obj : ℕ) (e : LogE
 describes-same steps log obj e h scns same =
     record {
       latest = subst (λ (db : Database). AreDefined obj (db.tables obj) (last_from None steps)) (sym (database-push log e))
-        (subst (λ (t : Option Table). AreDefined obj t (last_from None steps)) (sym same) h.latest);
+          (subst (λ (t : Option Table). AreDefined obj t (last_from None steps)) (sym same) h.latest);
       at = λ scn. subst (λ (t : Option Table). AreDefined obj t (defined_from None scn steps)) (sym (table_at-push log e scn obj scns)) (by_test scn (nat_le e.scn scn) refl);
       ordered = h.ordered;
       within = λ scn all. h.within scn (each-last (λ (x : LogEntry). x.scn ≤ scn) log e all).0;
@@ -138,9 +138,9 @@ Catalogs-step old new log e obj definition h scns adds made was tables created =
     let apart : (q : ℕ) → nat_eq obj q ≡ false → lookup (nat_eq q) new ≡ lookup (nat_eq q) old = λ q k. adds q ∙ cond-false (nat_eq obj q) _ _ k in
     record {
       created = by_name (λ q. is_some (lookup (nat_eq q) new) ≡ (database (log ++ e ∷ [])).created q) obj
-        (ap is_some here ∙ sym was ∙ sym (ap (λ (db : Database). db.created obj) (database-push log e)))
-        (λ q k. ap is_some (apart q k) ∙ h.created q ∙ sym (created q k) ∙ sym (ap (λ (db : Database). db.created q) (database-push log e)));
+          (ap is_some here ∙ sym was ∙ sym (ap (λ (db : Database). db.created obj) (database-push log e)))
+          (λ q k. ap is_some (apart q k) ∙ h.created q ∙ sym (created q k) ∙ sym (ap (λ (db : Database). db.created q) (database-push log e)));
       described = by_name (λ q. Describes (steps_of new q) (log ++ e ∷ []) q) obj
-        (subst (λ (l : List Step). Describes l (log ++ e ∷ []) obj) (sym (ap (λ (o : Option (List Step)). unwrap_or o []) here)) (describes-step (steps_of old obj) log obj e definition (h.described obj) scns made))
-        (λ q k. subst (λ (l : List Step). Describes l (log ++ e ∷ []) q) (sym (ap (λ (o : Option (List Step)). unwrap_or o []) (apart q k))) (describes-same (steps_of old q) log q e (h.described q) scns (tables q k)));
+          (subst (λ (l : List Step). Describes l (log ++ e ∷ []) obj) (sym (ap (λ (o : Option (List Step)). unwrap_or o []) here)) (describes-step (steps_of old obj) log obj e definition (h.described obj) scns made))
+          (λ q k. subst (λ (l : List Step). Describes l (log ++ e ∷ []) q) (sym (ap (λ (o : Option (List Step)). unwrap_or o []) (apart q k))) (describes-same (steps_of old q) log q e (h.described q) scns (tables q k)));
     }

@@ -34,12 +34,14 @@ Links-same f g latest (x ∷ xs) same h =
     (h.0, (h.1.0, same x (or_left (same_place x x) (list_any (same_place x) xs) (same_place-refl x)) ∙ h.1.1, Links-same f g h.1.0 xs (λ p k. same p (or_right (same_place p x) (list_any (same_place p) xs) k)) h.1.2))
 
 pub HasChain-same : (f g : Place → Option (Option Place)) (latest : Option Place) → ((p : Place) → g p ≡ f p) → HasChain f latest → HasChain g latest
-HasChain-same f g latest same h =
-    (h.0, record {
-      links = Links-same f g latest h.0 (λ p k. same p) h.1.links;
-      apart = h.1.apart;
-      all = λ p k. h.1.all p (ap is_some (sym (same p)) ∙ k);
-    })
+HasChain-same f g latest same h = (
+  h.0,
+  record {
+    links = Links-same f g latest h.0 (λ p k. same p) h.1.links;
+    apart = h.1.apart;
+    all = λ p k. h.1.all p (ap is_some (sym (same p)) ∙ k);
+  },
+)
 
 -- no links at all
 pub HasChain-none : (f : Place → Option (Option Place)) → ((p : Place) → f p ≡ None) → HasChain f None
@@ -50,12 +52,14 @@ pub HasChain-more : (f g : Place → Option (Option Place)) (latest : Option Pla
 HasChain-more f g latest a none sets h =
     let off : list_any (same_place a) h.0 ≡ false = false_from_ne_true (list_any (same_place a) h.0) (λ on. false≢true (ap is_some (sym none) ∙ Links-known f latest h.0 a h.1.links on)) in
     let other : (p : Place) → list_any (same_place p) h.0 ≡ true → same_place a p ≡ false =
-    λ p on. false_from_ne_true (same_place a p) (λ same. false≢true (sym off ∙ subst (λ (x : Place). list_any (same_place x) h.0 ≡ true) (sym (same_place-true a p same)) on)) in
-    (a ∷ h.0, record {
-      links = (refl, (latest, sets a ∙ cond-true (same_place a a) (Some latest) (f a) (same_place-refl a), Links-same f g latest h.0 (λ p on. sets p ∙ cond-false (same_place a p) (Some latest) (f p) (other p on)) h.1.links));
-      apart = (off, h.1.apart);
-      all = λ p some. by_test p some (same_place a p) refl;
-    })
+    λ p on. false_from_ne_true (same_place a p) (λ same. false≢true (sym off ∙ subst (λ (x : Place). list_any (same_place x) h.0 ≡ true) (sym (same_place-true a p same)) on)) in (
+      a ∷ h.0,
+      record {
+        links = (refl, (latest, sets a ∙ cond-true (same_place a a) (Some latest) (f a) (same_place-refl a), Links-same f g latest h.0 (λ p on. sets p ∙ cond-false (same_place a p) (Some latest) (f p) (other p on)) h.1.links));
+        apart = (off, h.1.apart);
+        all = λ p some. by_test p some (same_place a p) refl;
+      },
+    )
   where
     by_test : (p : Place) → is_some (g p) ≡ true → (b : Bool) → same_place a p ≡ b → (same_place p a || list_any (same_place p) h.0) ≡ true
     by_test p some true same = or_left (same_place p a) (list_any (same_place p) h.0) (subst (λ (x : Place). same_place x a ≡ true) (same_place-true a p same) (same_place-refl a))
@@ -72,12 +76,14 @@ off_chain f g a e is sets (x ∷ xs) h =
     let next : h.links.1.0 ≡ e = cc in
     let off : list_any (same_place a) xs ≡ false = subst (λ (p : Place). list_any (same_place p) xs ≡ false) (sym here) h.apart.0 in
     let other : (p : Place) → list_any (same_place p) xs ≡ true → same_place a p ≡ false =
-    λ p on. false_from_ne_true (same_place a p) (λ same. false≢true (sym off ∙ subst (λ (x : Place). list_any (same_place x) xs ≡ true) (sym (same_place-true a p same)) on)) in
-    (xs, record {
-      links = subst (λ (l : Option Place). Links g l xs) next (Links-same f g h.links.1.0 xs (λ p on. sets p ∙ cond-false (same_place a p) None (f p) (other p on)) h.links.1.2);
-      apart = h.apart.1;
-      all = λ p some. by_test p some (same_place a p) refl;
-    })
+    λ p on. false_from_ne_true (same_place a p) (λ same. false≢true (sym off ∙ subst (λ (x : Place). list_any (same_place x) xs ≡ true) (sym (same_place-true a p same)) on)) in (
+      xs,
+      record {
+        links = subst (λ (l : Option Place). Links g l xs) next (Links-same f g h.links.1.0 xs (λ p on. sets p ∙ cond-false (same_place a p) None (f p) (other p on)) h.links.1.2);
+        apart = h.apart.1;
+        all = λ p some. by_test p some (same_place a p) refl;
+      },
+    )
   where
     by_test : (p : Place) → is_some (g p) ≡ true → (b : Bool) → same_place a p ≡ b → list_any (same_place p) xs ≡ true
     by_test p some true same = absurd (false≢true (ap is_some (sym (sets p ∙ cond-true (same_place a p) None (f p) same)) ∙ some))

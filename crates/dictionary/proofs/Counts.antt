@@ -32,6 +32,7 @@ sets_as_it_was old inside new change shown same none q = by_test (same_change ch
   where
     here : kept_at old change ≡ None
     here = ap (λ (l : List (Change × Pending)). kept_at l change) (sym shown) ∙ none
+
     by_test : (b : Bool) → same_change change q ≡ b → kept_at new q ≡ cond b (one_less (kept_at old change)) (kept_at old q)
     by_test true e =
         let at_q : kept_at old q ≡ None = ap (kept_at old) (sym (same_change-true change q e)) ∙ here in
@@ -75,6 +76,7 @@ earlier-removed old new txn a sets p = by_test (same_place a p) refl
   where
     at_p : kept_at new (change_of txn p) ≡ cond (same_place a p) None (kept_at old (change_of txn p))
     at_p = sets (change_of txn p) ∙ ap (λ (b : Bool). cond b None (kept_at old (change_of txn p))) (same_change-place txn a p)
+
     by_test : (b : Bool) → same_place a p ≡ b → earlier_at new txn p ≡ cond b None (earlier_at old txn p)
     by_test true e = ap (option_map (λ (k : Pending). k.earlier)) (at_p ∙ cond-true (same_place a p) None (kept_at old (change_of txn p)) e)
     by_test false e = ap (option_map (λ (k : Pending). k.earlier)) (at_p ∙ cond-false (same_place a p) None (kept_at old (change_of txn p)) e)
@@ -89,6 +91,7 @@ forgotten old new txn none others q = by_test (nat_eq txn q.txn) refl
     none_kept : (o : Option Pending) → is_some (option_map (λ (k : Pending). k.earlier) o) ≡ false → o ≡ None
     none_kept None e = refl
     none_kept (Some k) e = absurd (true≢false e)
+
     by_test : (b : Bool) → nat_eq txn q.txn ≡ b → kept_at new q ≡ cond b None (kept_at old q)
     by_test true e =
         ap (λ (t : ℕ). kept_at new (change_of t q.addr)) (sym (eqb-true txn q.txn e)) ∙ none_kept (kept_at new (change_of txn q.addr)) (none q.addr)
@@ -105,9 +108,10 @@ left_at_first old inside txn latest shown h =
 
 pub left_after_one : (old now new : List (Change × Pending)) (txn : ℕ) (next : Option Place) (a : Place) (was : Pending) → next ≡ Some a → kept_at now (change_of txn a) ≡ Some was
     → ((q : Change) → kept_at new q ≡ cond (same_change (change_of txn a) q) None (kept_at now q)) → IsLeft old now txn next → IsLeft old new txn was.earlier
-left_after_one old now new txn next a was is had sets h =
-    (HasChain-less (earlier_at now txn) (earlier_at new txn) a was.earlier (ap (option_map (λ (k : Pending). k.earlier)) had) (earlier-removed now new txn a sets) (subst (HasChain (earlier_at now txn)) is h.0),
-      λ q apart. kept-of_others now new txn a sets q apart ∙ h.1 q apart)
+left_after_one old now new txn next a was is had sets h = (
+  HasChain-less (earlier_at now txn) (earlier_at new txn) a was.earlier (ap (option_map (λ (k : Pending). k.earlier)) had) (earlier-removed now new txn a sets) (subst (HasChain (earlier_at now txn)) is h.0),
+  λ q apart. kept-of_others now new txn a sets q apart ∙ h.1 q apart,
+)
 
 pub left_at_end : (old now : List (Change × Pending)) (txn : ℕ) (next : Option Place) → next ≡ None → IsLeft old now txn next → (q : Change) → kept_at now q ≡ cond (nat_eq txn q.txn) None (kept_at old q)
 left_at_end old now txn next is h = forgotten old now txn (HasChain-ends (earlier_at now txn) (subst (HasChain (earlier_at now txn)) is h.0)) h.1

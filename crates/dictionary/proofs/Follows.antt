@@ -60,9 +60,9 @@ module _ (old new : Known) (log : List LogEntry) (e : LogEntry) (v : Vector) (s 
   takes_up-transaction tables created same tracks =
       let back : (x : Vector) → e.vector ≡ x → v ≡ x = λ x k. sym is ∙ k in
       more tracks (subst (λ (l : List (ℕ × List Step)). Catalogs l (log ++ e ∷ [])) (sym same)
-        (Catalogs-same old.objects log e s.objects f.scn
-          (subst (λ (x : Vector). (obj : ℕ) → (after (database log) x).tables obj ≡ (database log).tables obj) (sym is) tables)
-          (subst (λ (x : Vector). (obj : ℕ) → (after (database log) x).created obj ≡ (database log).created obj) (sym is) created)))
+      (Catalogs-same old.objects log e s.objects f.scn
+      (subst (λ (x : Vector). (obj : ℕ) → (after (database log) x).tables obj ≡ (database log).tables obj) (sym is) tables)
+      (subst (λ (x : Vector). (obj : ℕ) → (after (database log) x).created obj ≡ (database log).created obj) (sym is) created)))
 
   pub takes_up-object : (obj : ℕ) (definition : Option Definition) → new.transactions ≡ old.transactions → TracksIn old.transactions (after (database log) v)
       → AddsStep old.objects new.objects obj (record { scn = e.scn; definition = definition })
@@ -73,11 +73,11 @@ module _ (old new : Known) (log : List LogEntry) (e : LogEntry) (v : Vector) (s 
       → StandsFor new (log ++ e ∷ [])
   takes_up-object obj definition same tracks adds made was tables created =
       more (subst (λ (t : Held). TracksIn t (after (database log) v)) (sym same) tracks)
-        (Catalogs-step old.objects new.objects log e obj definition s.objects f.scn adds
-          (subst (λ (x : Vector). AreDefined obj ((after (database log) x).tables obj) definition) (sym is) made)
-          (subst (λ (x : Vector). (after (database log) x).created obj ≡ true) (sym is) was)
-          (subst (λ (x : Vector). (q : ℕ) → nat_eq obj q ≡ false → (after (database log) x).tables q ≡ (database log).tables q) (sym is) tables)
-          (subst (λ (x : Vector). (q : ℕ) → nat_eq obj q ≡ false → (after (database log) x).created q ≡ (database log).created q) (sym is) created))
+      (Catalogs-step old.objects new.objects log e obj definition s.objects f.scn adds
+      (subst (λ (x : Vector). AreDefined obj ((after (database log) x).tables obj) definition) (sym is) made)
+      (subst (λ (x : Vector). (after (database log) x).created obj ≡ true) (sym is) was)
+      (subst (λ (x : Vector). (q : ℕ) → nat_eq obj q ≡ false → (after (database log) x).tables q ≡ (database log).tables q) (sym is) tables)
+      (subst (λ (x : Vector). (q : ℕ) → nat_eq obj q ≡ false → (after (database log) x).created q ≡ (database log).created q) (sym is) created))
 
   -- an object that was created gets another table, or none
   pub takes_up-change : (obj : ℕ) (made : Option Table) (definition : Option Definition) → (after (database log) v).tables ≡ set_at obj made (database log).tables → (after (database log) v).created ≡ (database log).created
@@ -86,10 +86,10 @@ module _ (old new : Known) (log : List LogEntry) (e : LogEntry) (v : Vector) (s 
       → AreDefined obj made definition → (database log).created obj ≡ true → StandsFor new (log ++ e ∷ [])
   takes_up-change obj made definition tables created same tracks adds defined was =
       takes_up-object obj definition same tracks adds
-        (subst (λ (t : Option Table). AreDefined obj t definition) (sym (ap (λ (g : ℕ → Option Table). g obj) tables ∙ set_at-here obj made (database log).tables)) defined)
-        (ap (λ (g : ℕ → Bool). g obj) created ∙ was)
-        (λ q k. ap (λ (g : ℕ → Option Table). g q) tables ∙ set_at-apart obj made (database log).tables q k)
-        (λ q k. ap (λ (g : ℕ → Bool). g q) created)
+      (subst (λ (t : Option Table). AreDefined obj t definition) (sym (ap (λ (g : ℕ → Option Table). g obj) tables ∙ set_at-here obj made (database log).tables)) defined)
+      (ap (λ (g : ℕ → Bool). g obj) created ∙ was)
+      (λ q k. ap (λ (g : ℕ → Option Table). g q) tables ∙ set_at-apart obj made (database log).tables q k)
+      (λ q k. ap (λ (g : ℕ → Bool). g q) created)
 
   -- an object that was not created is made
   pub takes_up-create : (obj extents : ℕ) (flag : Bool) (columns : List ColKind) (definition : Definition) → v ≡ Create obj extents flag columns
@@ -101,11 +101,11 @@ module _ (old new : Known) (log : List LogEntry) (e : LogEntry) (v : Vector) (s 
       let made : Table = record { extents = extents; flag = flag; kinds = columns } in
       let db = database log in
       takes_up-object obj (Some definition) same
-        (subst (λ (x : Vector). TracksIn old.transactions (after db x)) (sym create) s.transactions) adds
-        (subst (λ (x : Vector). AreDefined obj ((after db x).tables obj) (Some definition)) (sym create) (subst (λ (t : Option Table). AreDefined obj t (Some definition)) (sym (set_at-here obj (Some made) db.tables)) defined))
-        (subst (λ (x : Vector). (after db x).created obj ≡ true) (sym create) (set_at-here obj true db.created))
-        (subst (λ (x : Vector). (q : ℕ) → nat_eq obj q ≡ false → (after db x).tables q ≡ db.tables q) (sym create) (λ q k. set_at-apart obj (Some made) db.tables q k))
-        (subst (λ (x : Vector). (q : ℕ) → nat_eq obj q ≡ false → (after db x).created q ≡ db.created q) (sym create) (λ q k. set_at-apart obj true db.created q k))
+      (subst (λ (x : Vector). TracksIn old.transactions (after db x)) (sym create) s.transactions) adds
+      (subst (λ (x : Vector). AreDefined obj ((after db x).tables obj) (Some definition)) (sym create) (subst (λ (t : Option Table). AreDefined obj t (Some definition)) (sym (set_at-here obj (Some made) db.tables)) defined))
+      (subst (λ (x : Vector). (after db x).created obj ≡ true) (sym create) (set_at-here obj true db.created))
+      (subst (λ (x : Vector). (q : ℕ) → nat_eq obj q ≡ false → (after db x).tables q ≡ db.tables q) (sym create) (λ q k. set_at-apart obj (Some made) db.tables q k))
+      (subst (λ (x : Vector). (q : ℕ) → nat_eq obj q ≡ false → (after db x).created q ≡ db.created q) (sym create) (λ q k. set_at-apart obj true db.created q k))
 
 -- the place of a change, from what was found of the transaction and the object
 pub placed : (db : Database) (txn obj block slot : ℕ) (addr : Place) (definition : Definition) → is_running db txn ≡ true → AreDefined obj (db.tables obj) (Some definition)
@@ -160,6 +160,7 @@ found objects log obj definition h is =
     known : (o : Option (List Step)) → Some definition ≡ last_from None (unwrap_or o []) → is_some o ≡ true
     known None e = absurd cc
     known (Some steps) e = refl
+
     by_table : (o : Option Table) → (database log).tables obj ≡ o → AreDefined obj o (Some definition) → IsFound (database log) objects obj definition
     by_table None e d = absurd d
     by_table (Some t) e d =

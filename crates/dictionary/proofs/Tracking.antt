@@ -59,7 +59,7 @@ count_at-struck a p [] = by_test (same_place a p)
 count_at-struck a p (c ∷ cs) = by_test (same_place a c.at) refl (same_place a p) refl (count_at-struck a p cs)
   where
     by_test : (x : Bool) → same_place a c.at ≡ x → (y : Bool) → same_place a p ≡ y → count_at p (struck a cs) ≡ cond (same_place a p) (count_at p cs - 1) (count_at p cs)
-      → count_at p (cond x cs (c ∷ struck a cs)) ≡ cond y (count_at p (c ∷ cs) - 1) (count_at p (c ∷ cs))
+        → count_at p (cond x cs (c ∷ struck a cs)) ≡ cond y (count_at p (c ∷ cs) - 1) (count_at p (c ∷ cs))
     by_test true e true h ih =
         let same : same_place p c.at ≡ true = subst (λ (q : Place). same_place q c.at ≡ true) (same_place-true a p h) e in
         rw same (omega arith)
@@ -110,21 +110,21 @@ module _ (was_begun has_ended was_noted : ℕ → Bool) (changes : ℕ → List 
       let none : is_some (running_at old txn) ≡ false = (or_parts (is_some (running_at old txn)) (is_ended old txn) (sym (h.begun txn) ∙ fresh)).0 in
       record {
         begun = by_name (λ q. set_at txn true was_begun q ≡ (is_some (running_at new q) || is_ended new q)) txn
-          (set_at-here txn true was_begun ∙ sym (ap (λ (o : Option Running). is_some o || is_ended new txn) here))
-          (λ q e. set_at-apart txn true was_begun q e ∙ h.begun q ∙ ap₂ (λ (o : Option Running) (l : List ℕ). is_some o || list_any (nat_eq q) l) (sym (apart q e)) (sym ended));
+            (set_at-here txn true was_begun ∙ sym (ap (λ (o : Option Running). is_some o || is_ended new txn) here))
+            (λ q e. set_at-apart txn true was_begun q e ∙ h.begun q ∙ ap₂ (λ (o : Option Running) (l : List ℕ). is_some o || list_any (nat_eq q) l) (sym (apart q e)) (sym ended));
         running = by_name (λ q. is_some (running_at new q) ≡ (set_at txn true was_begun q && not (has_ended q))) txn
-          (ap is_some here ∙ sym (ap₂ (λ (b : Bool) (e : Bool). b && not e) (set_at-here txn true was_begun) (h.fresh txn fresh).0))
-          (λ q e. ap is_some (apart q e) ∙ h.running q ∙ ap (λ (b : Bool). b && not (has_ended q)) (sym (set_at-apart txn true was_begun q e)));
+            (ap is_some here ∙ sym (ap₂ (λ (b : Bool) (e : Bool). b && not e) (set_at-here txn true was_begun) (h.fresh txn fresh).0))
+            (λ q e. ap is_some (apart q e) ∙ h.running q ∙ ap (λ (b : Bool). b && not (has_ended q)) (sym (set_at-apart txn true was_begun q e)));
         noted = by_name (λ q. IsNoted (running_at new q) (was_noted q)) txn
-          (subst (λ (o : Option Running). IsNoted o (was_noted txn)) (sym here) (sym (h.fresh txn fresh).1))
-          (λ q e. subst (λ (o : Option Running). IsNoted o (was_noted q)) (sym (apart q e)) (h.noted q));
+            (subst (λ (o : Option Running). IsNoted o (was_noted txn)) (sym here) (sym (h.fresh txn fresh).1))
+            (λ q e. subst (λ (o : Option Running). IsNoted o (was_noted q)) (sym (apart q e)) (h.noted q));
         fresh = by_name (λ q. set_at txn true was_begun q ≡ false → (has_ended q ≡ false) × (was_noted q ≡ false)) txn
-          (λ f. h.fresh txn fresh)
-          (λ q e f. h.fresh q (sym (set_at-apart txn true was_begun q e) ∙ f));
+            (λ f. h.fresh txn fresh)
+            (λ q e f. h.fresh q (sym (set_at-apart txn true was_begun q e) ∙ f));
         counts = λ q p. ap (λ (l : List (Change × Pending)). count_of (kept_at l (change_of q p))) pending ∙ h.counts q p;
         chains = by_name (λ q. HasChain (earlier_at new.pending q) (latest_of (running_at new q))) txn
-          (chain_moved old.pending new.pending (running_at old txn) (running_at new txn) txn (λ p. ap (λ (l : List (Change × Pending)). kept_at l (change_of txn p)) pending) (ap latest_of here ∙ sym (latest_of-none (running_at old txn) none)) (h.chains txn))
-          (λ q e. chain_moved old.pending new.pending (running_at old q) (running_at new q) q (λ p. ap (λ (l : List (Change × Pending)). kept_at l (change_of q p)) pending) (ap latest_of (apart q e)) (h.chains q));
+            (chain_moved old.pending new.pending (running_at old txn) (running_at new txn) txn (λ p. ap (λ (l : List (Change × Pending)). kept_at l (change_of txn p)) pending) (ap latest_of here ∙ sym (latest_of-none (running_at old txn) none)) (h.chains txn))
+            (λ q e. chain_moved old.pending new.pending (running_at old q) (running_at new q) q (λ p. ap (λ (l : List (Change × Pending)). kept_at l (change_of q p)) pending) (ap latest_of (apart q e)) (h.chains q));
       }
 
   -- a running transaction makes a change
@@ -141,50 +141,52 @@ module _ (was_begun has_ended was_noted : ℕ → Bool) (changes : ℕ → List 
       let here : running_at new txn ≡ Some next = running txn ∙ sets-here txn (Some next) (running_at old txn) in
       let apart : (q : ℕ) → nat_eq txn q ≡ false → running_at new q ≡ running_at old q = λ q e. running q ∙ cond-false (nat_eq txn q) (Some next) (running_at old q) e in
       let some : (q : ℕ) → is_some (running_at new q) ≡ is_some (running_at old q) =
-        by_name (λ q. is_some (running_at new q) ≡ is_some (running_at old q)) txn (ap is_some here ∙ sym (ap is_some had)) (λ q e. ap is_some (apart q e)) in
+      by_name (λ q. is_some (running_at new q) ≡ is_some (running_at old q)) txn (ap is_some here ∙ sym (ap is_some had)) (λ q e. ap is_some (apart q e)) in
       let others : (q : ℕ) → nat_eq txn q ≡ false → (p : Place) → kept_at new.pending (change_of q p) ≡ kept_at old.pending (change_of q p) =
-        λ q e p. earlier-of_other old.pending new.pending (change_of txn change.at) (Some (one_more was.latest kept)) q sets e p in
+      λ q e p. earlier-of_other old.pending new.pending (change_of txn change.at) (Some (one_more was.latest kept)) q sets e p in
       let at_place : (p : Place) → kept_at new.pending (change_of txn p) ≡ cond (same_place change.at p) (Some (one_more was.latest kept)) (kept_at old.pending (change_of txn p)) =
-        kept-here old.pending new.pending txn change.at (Some (one_more was.latest kept)) sets in
+      kept-here old.pending new.pending txn change.at (Some (one_more was.latest kept)) sets in
       let note : was.noted ≡ was_noted txn = subst (λ (o : Option Running). IsNoted o (was_noted txn)) had (h.noted txn) in
       record {
         begun = λ q. h.begun q ∙ ap₂ (λ (b : Bool) (l : List ℕ). b || list_any (nat_eq q) l) (sym (some q)) (sym ended);
         running = λ q. some q ∙ h.running q;
         noted = by_name (λ q. IsNoted (running_at new q) (set_at txn (was_noted txn || in_memory) was_noted q)) txn
-          (subst (λ (o : Option Running). IsNoted o (set_at txn (was_noted txn || in_memory) was_noted txn)) (sym here) (ap (λ (b : Bool). b || in_memory) note ∙ sym (set_at-here txn (was_noted txn || in_memory) was_noted)))
-          (λ q e. subst (λ (b : Bool). IsNoted (running_at new q) b) (sym (set_at-apart txn (was_noted txn || in_memory) was_noted q e)) (subst (λ (o : Option Running). IsNoted o (was_noted q)) (sym (apart q e)) (h.noted q)));
+            (subst (λ (o : Option Running). IsNoted o (set_at txn (was_noted txn || in_memory) was_noted txn)) (sym here) (ap (λ (b : Bool). b || in_memory) note ∙ sym (set_at-here txn (was_noted txn || in_memory) was_noted)))
+            (λ q e. subst (λ (b : Bool). IsNoted (running_at new q) b) (sym (set_at-apart txn (was_noted txn || in_memory) was_noted q e)) (subst (λ (o : Option Running). IsNoted o (was_noted q)) (sym (apart q e)) (h.noted q)));
         fresh = by_name (λ q. was_begun q ≡ false → (has_ended q ≡ false) × (set_at txn (was_noted txn || in_memory) was_noted q ≡ false)) txn
-          (λ f. absurd (true≢false (sym (ap is_some had) ∙ h.running txn ∙ ap (λ (b : Bool). b && not (has_ended txn)) f)))
-          (λ q e f. ((h.fresh q f).0, set_at-apart txn (was_noted txn || in_memory) was_noted q e ∙ (h.fresh q f).1));
+            (λ f. absurd (true≢false (sym (ap is_some had) ∙ h.running txn ∙ ap (λ (b : Bool). b && not (has_ended txn)) f)))
+            (λ q e f. ((h.fresh q f).0, set_at-apart txn (was_noted txn || in_memory) was_noted q e ∙ (h.fresh q f).1));
         counts = by_name (λ q. (p : Place) → count_of (kept_at new.pending (change_of q p)) ≡ count_at p (set_at txn (change ∷ changes txn) changes q)) txn
-          (λ p. ap count_of (at_place p) ∙ more_at change was.latest p kept refl (h.counts txn) ∙ sym (ap (count_at p) (set_at-here txn (change ∷ changes txn) changes)))
-          (λ q e p. ap count_of (others q e p) ∙ h.counts q p ∙ sym (ap (count_at p) (set_at-apart txn (change ∷ changes txn) changes q e)));
+            (λ p. ap count_of (at_place p) ∙ more_at change was.latest p kept refl (h.counts txn) ∙ sym (ap (count_at p) (set_at-here txn (change ∷ changes txn) changes)))
+            (λ q e p. ap count_of (others q e p) ∙ h.counts q p ∙ sym (ap (count_at p) (set_at-apart txn (change ∷ changes txn) changes q e)));
         chains = by_name (λ q. HasChain (earlier_at new.pending q) (latest_of (running_at new q))) txn
-          (subst (λ (o : Option Running). HasChain (earlier_at new.pending txn) (latest_of o)) (sym here)
+            (subst (λ (o : Option Running). HasChain (earlier_at new.pending txn) (latest_of o)) (sym here)
             (chain_grown old.pending new.pending change.at was.latest is_new kept refl new_is at_place (subst (λ (o : Option Running). HasChain (earlier_at old.pending txn) (latest_of o)) had (h.chains txn))))
-          (λ q e. chain_moved old.pending new.pending (running_at old q) (running_at new q) q (others q e) (ap latest_of (apart q e)) (h.chains q));
+            (λ q e. chain_moved old.pending new.pending (running_at old q) (running_at new q) q (others q e) (ap latest_of (apart q e)) (h.chains q));
       }
     where
       more_at : (change : Played) (latest : Option Place) (p : Place) (kept : Option Pending) → kept ≡ kept_at old.pending (change_of txn change.at)
-        → ((p : Place) → count_of (kept_at old.pending (change_of txn p)) ≡ count_at p (changes txn))
-        → count_of (cond (same_place change.at p) (Some (one_more latest kept)) (kept_at old.pending (change_of txn p))) ≡ count_at p (change ∷ changes txn)
+          → ((p : Place) → count_of (kept_at old.pending (change_of txn p)) ≡ count_at p (changes txn))
+          → count_of (cond (same_place change.at p) (Some (one_more latest kept)) (kept_at old.pending (change_of txn p))) ≡ count_at p (change ∷ changes txn)
       more_at change latest p kept is counted = by_test (same_place change.at p) refl
         where
           more : (o : Option Pending) → (one_more latest o).count ≡ count_of o + 1
           more None = refl
           more (Some k) = refl
+
           by_test : (b : Bool) → same_place change.at p ≡ b → count_of (cond b (Some (one_more latest kept)) (kept_at old.pending (change_of txn p))) ≡ count_at p (change ∷ changes txn)
           by_test true e =
-            let same : same_place p change.at ≡ true = place-sym p change.at ∙ e in
-            let there : count_of kept ≡ count_at p (changes txn) =
+              let same : same_place p change.at ≡ true = place-sym p change.at ∙ e in
+              let there : count_of kept ≡ count_at p (changes txn) =
               ap count_of is ∙ counted change.at ∙ ap (λ (x : Place). count_at x (changes txn)) (same_place-true change.at p e) in
-            rw same (more kept ∙ ap (λ (n : ℕ). n + 1) there)
+              rw same (more kept ∙ ap (λ (n : ℕ). n + 1) there)
           by_test false e =
-            let apart : same_place p change.at ≡ false = place-sym p change.at ∙ e in
-            rw apart (counted p)
+              let apart : same_place p change.at ≡ false = place-sym p change.at ∙ e in
+              rw apart (counted p)
+
       chain_grown : (was_kept now_kept : List (Change × Pending)) (a : Place) (latest : Option Place) (is_new : Bool) (kept : Option Pending) → kept ≡ kept_at was_kept (change_of txn a) → is_new ≡ not (is_some kept)
-        → ((p : Place) → kept_at now_kept (change_of txn p) ≡ cond (same_place a p) (Some (one_more latest kept)) (kept_at was_kept (change_of txn p)))
-        → HasChain (earlier_at was_kept txn) latest → HasChain (earlier_at now_kept txn) (cond is_new (Some a) latest)
+          → ((p : Place) → kept_at now_kept (change_of txn p) ≡ cond (same_place a p) (Some (one_more latest kept)) (kept_at was_kept (change_of txn p)))
+          → HasChain (earlier_at was_kept txn) latest → HasChain (earlier_at now_kept txn) (cond is_new (Some a) latest)
       chain_grown was_kept now_kept a latest is_new None is new_is at_place chain =
           subst (λ (b : Bool). HasChain (earlier_at now_kept txn) (cond b (Some a) latest)) (sym new_is)
           (HasChain-more (earlier_at was_kept txn) (earlier_at now_kept txn) latest a (ap earlier_of (sym is)) (λ p. ap earlier_of (at_place p) ∙ earlier_of-cond (same_place a p) (one_more latest None) (kept_at was_kept (change_of txn p))) chain)
@@ -204,34 +206,37 @@ module _ (was_begun has_ended was_noted : ℕ → Bool) (changes : ℕ → List 
       let kept = kept_at old.pending (change_of txn a) in
       let same : (q : ℕ) → running_at new q ≡ running_at old q = λ q. ap (λ (l : List (ℕ × Running)). lookup (nat_eq q) l) running in
       let others : (q : ℕ) → nat_eq txn q ≡ false → (p : Place) → kept_at new.pending (change_of q p) ≡ kept_at old.pending (change_of q p) =
-        λ q e p. earlier-of_other old.pending new.pending (change_of txn a) (one_less kept) q sets e p in
+      λ q e p. earlier-of_other old.pending new.pending (change_of txn a) (one_less kept) q sets e p in
       let at_place : (p : Place) → kept_at new.pending (change_of txn p) ≡ cond (same_place a p) (one_less kept) (kept_at old.pending (change_of txn p)) =
-        kept-here old.pending new.pending txn a (one_less kept) sets in
+      kept-here old.pending new.pending txn a (one_less kept) sets in
       record {
         begun = λ q. h.begun q ∙ ap₂ (λ (o : Option Running) (l : List ℕ). is_some o || list_any (nat_eq q) l) (sym (same q)) (sym ended);
         running = λ q. ap is_some (same q) ∙ h.running q;
         noted = λ q. subst (λ (o : Option Running). IsNoted o (was_noted q)) (sym (same q)) (h.noted q);
         fresh = h.fresh;
         counts = by_name (λ q. (p : Place) → count_of (kept_at new.pending (change_of q p)) ≡ count_at p (set_at txn (struck a (changes txn)) changes q)) txn
-          (λ p. ap count_of (at_place p) ∙ less_at p (same_place a p) refl ∙ sym (count_at-struck a p (changes txn)) ∙ sym (ap (count_at p) (set_at-here txn (struck a (changes txn)) changes)))
-          (λ q e p. ap count_of (others q e p) ∙ h.counts q p ∙ sym (ap (count_at p) (set_at-apart txn (struck a (changes txn)) changes q e)));
+            (λ p. ap count_of (at_place p) ∙ less_at p (same_place a p) refl ∙ sym (count_at-struck a p (changes txn)) ∙ sym (ap (count_at p) (set_at-here txn (struck a (changes txn)) changes)))
+            (λ q e p. ap count_of (others q e p) ∙ h.counts q p ∙ sym (ap (count_at p) (set_at-apart txn (struck a (changes txn)) changes q e)));
         chains = by_name (λ q. HasChain (earlier_at new.pending q) (latest_of (running_at new q))) txn
-          (subst (λ (o : Option Running). HasChain (earlier_at new.pending txn) (latest_of o)) (sym (same txn))
+            (subst (λ (o : Option Running). HasChain (earlier_at new.pending txn) (latest_of o)) (sym (same txn))
             (HasChain-same (earlier_at old.pending txn) (earlier_at new.pending txn) (latest_of (running_at old txn)) (λ p. ap earlier_of (at_place p) ∙ as_it_was p (same_place a p) refl) (h.chains txn)))
-          (λ q e. chain_moved old.pending new.pending (running_at old q) (running_at new q) q (others q e) (ap latest_of (same q)) (h.chains q));
+            (λ q e. chain_moved old.pending new.pending (running_at old q) (running_at new q) q (others q e) (ap latest_of (same q)) (h.chains q));
       }
     where
       less : (o : Option Pending) → count_of (one_less o) ≡ count_of o - 1
       less None = refl
       less (Some k) = refl
+
       earlier-less : (o : Option Pending) → earlier_of (one_less o) ≡ earlier_of o
       earlier-less None = refl
       earlier-less (Some k) = refl
+
       less_at : (p : Place) (b : Bool) → same_place a p ≡ b → count_of (cond b (one_less (kept_at old.pending (change_of txn a))) (kept_at old.pending (change_of txn p))) ≡ cond (same_place a p) (count_at p (changes txn) - 1) (count_at p (changes txn))
       less_at p true e =
           less (kept_at old.pending (change_of txn a)) ∙ ap (λ (n : ℕ). n - 1) (h.counts txn a ∙ ap (λ (x : Place). count_at x (changes txn)) (same_place-true a p e))
           ∙ sym (cond-true (same_place a p) (count_at p (changes txn) - 1) (count_at p (changes txn)) e)
       less_at p false e = h.counts txn p ∙ sym (cond-false (same_place a p) (count_at p (changes txn) - 1) (count_at p (changes txn)) e)
+
       as_it_was : (p : Place) (b : Bool) → same_place a p ≡ b → earlier_of (cond b (one_less (kept_at old.pending (change_of txn a))) (kept_at old.pending (change_of txn p))) ≡ earlier_at old.pending txn p
       as_it_was p true e = earlier-less (kept_at old.pending (change_of txn a)) ∙ ap (λ (x : Place). earlier_at old.pending txn x) (same_place-true a p e)
       as_it_was p false e = refl
@@ -247,24 +252,24 @@ module _ (was_begun has_ended was_noted : ℕ → Bool) (changes : ℕ → List 
       let apart : (q : ℕ) → nat_eq txn q ≡ false → running_at new q ≡ running_at old q = λ q e. running q ∙ cond-false (nat_eq txn q) None (running_at old q) e in
       let none : (p : Place) → kept_at new.pending (change_of txn p) ≡ None = λ p. kept (change_of txn p) ∙ sets-here txn None (kept_at old.pending (change_of txn p)) in
       let others : (q : ℕ) → nat_eq txn q ≡ false → (p : Place) → kept_at new.pending (change_of q p) ≡ kept_at old.pending (change_of q p) =
-        λ q e p. kept (change_of q p) ∙ cond-false (nat_eq txn q) None (kept_at old.pending (change_of q p)) e in
+      λ q e p. kept (change_of q p) ∙ cond-false (nat_eq txn q) None (kept_at old.pending (change_of q p)) e in
       record {
         begun = by_name (λ q. was_begun q ≡ (is_some (running_at new q) || is_ended new q)) txn
-          (was ∙ sym (ap₂ (λ (o : Option Running) (b : Bool). is_some o || b) here (ended txn ∙ sets-here txn true (is_ended old txn))))
-          (λ q e. h.begun q ∙ ap₂ (λ (o : Option Running) (b : Bool). is_some o || b) (sym (apart q e)) (sym (ended q ∙ cond-false (nat_eq txn q) true (is_ended old q) e)));
+            (was ∙ sym (ap₂ (λ (o : Option Running) (b : Bool). is_some o || b) here (ended txn ∙ sets-here txn true (is_ended old txn))))
+            (λ q e. h.begun q ∙ ap₂ (λ (o : Option Running) (b : Bool). is_some o || b) (sym (apart q e)) (sym (ended q ∙ cond-false (nat_eq txn q) true (is_ended old q) e)));
         running = by_name (λ q. is_some (running_at new q) ≡ (was_begun q && not (set_at txn true has_ended q))) txn
-          (ap is_some here ∙ sym (ap₂ (λ (b : Bool) (e : Bool). b && not e) was (set_at-here txn true has_ended)))
-          (λ q e. ap is_some (apart q e) ∙ h.running q ∙ ap (λ (b : Bool). was_begun q && not b) (sym (set_at-apart txn true has_ended q e)));
+            (ap is_some here ∙ sym (ap₂ (λ (b : Bool) (e : Bool). b && not e) was (set_at-here txn true has_ended)))
+            (λ q e. ap is_some (apart q e) ∙ h.running q ∙ ap (λ (b : Bool). was_begun q && not b) (sym (set_at-apart txn true has_ended q e)));
         noted = by_name (λ q. IsNoted (running_at new q) (was_noted q)) txn
-          (subst (λ (o : Option Running). IsNoted o (was_noted txn)) (sym here) tt)
-          (λ q e. subst (λ (o : Option Running). IsNoted o (was_noted q)) (sym (apart q e)) (h.noted q));
+            (subst (λ (o : Option Running). IsNoted o (was_noted txn)) (sym here) tt)
+            (λ q e. subst (λ (o : Option Running). IsNoted o (was_noted q)) (sym (apart q e)) (h.noted q));
         fresh = by_name (λ q. was_begun q ≡ false → (set_at txn true has_ended q ≡ false) × (was_noted q ≡ false)) txn
-          (λ f. absurd (true≢false (sym was ∙ f)))
-          (λ q e f. (set_at-apart txn true has_ended q e ∙ (h.fresh q f).0, (h.fresh q f).1));
+            (λ f. absurd (true≢false (sym was ∙ f)))
+            (λ q e f. (set_at-apart txn true has_ended q e ∙ (h.fresh q f).0, (h.fresh q f).1));
         counts = by_name (λ q. (p : Place) → count_of (kept_at new.pending (change_of q p)) ≡ count_at p (set_at txn [] changes q)) txn
-          (λ p. ap count_of (none p) ∙ sym (ap (count_at p) (set_at-here txn [] changes)))
-          (λ q e p. ap count_of (others q e p) ∙ h.counts q p ∙ sym (ap (count_at p) (set_at-apart txn [] changes q e)));
+            (λ p. ap count_of (none p) ∙ sym (ap (count_at p) (set_at-here txn [] changes)))
+            (λ q e p. ap count_of (others q e p) ∙ h.counts q p ∙ sym (ap (count_at p) (set_at-apart txn [] changes q e)));
         chains = by_name (λ q. HasChain (earlier_at new.pending q) (latest_of (running_at new q))) txn
-          (subst (λ (o : Option Running). HasChain (earlier_at new.pending txn) (latest_of o)) (sym here) (HasChain-none (earlier_at new.pending txn) (λ p. ap earlier_of (none p))))
-          (λ q e. chain_moved old.pending new.pending (running_at old q) (running_at new q) q (others q e) (ap latest_of (apart q e)) (h.chains q));
+            (subst (λ (o : Option Running). HasChain (earlier_at new.pending txn) (latest_of o)) (sym here) (HasChain-none (earlier_at new.pending txn) (λ p. ap earlier_of (none p))))
+            (λ q e. chain_moved old.pending new.pending (running_at old q) (running_at new q) q (others q e) (ap latest_of (apart q e)) (h.chains q));
       }

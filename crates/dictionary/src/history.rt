@@ -52,7 +52,9 @@ impl History {
     pub fn at(&self, scn: Scn) -> Option<&Definition>
         ensures { IsNonDecreasingBy (λ step. step.scn) self.now → option_copied result ≡ defined_from None scn self.now }
     {
-        let upto = self.steps.partition_point(|step| step.scn.get() <= scn.get());
+        let upto = self
+            .steps
+            .partition_point(|step| step.scn.get() <= scn.get());
         self.steps[..upto].last()?.definition.as_ref()
     }
 

@@ -62,7 +62,12 @@ impl Objects {
     }
 
     /// Begins the history of an object that was not created.
-    pub fn create(&mut self, obj: Obj, scn: Scn, definition: Option<Definition>) -> Result<(), Memory>
+    pub fn create(
+        &mut self,
+        obj: Obj,
+        scn: Scn,
+        definition: Option<Definition>,
+    ) -> Result<(), Memory>
         ensures ok { OnOk result (lookup (nat_eq obj) self.old ≡ None → AddsStep self.old self.new obj (record { scn = scn; definition = definition })) }
         ensures err { OnErr result (self.new ≡ self.old) }
     {
@@ -73,7 +78,12 @@ impl Objects {
     }
 
     /// Adds to the history of an object that was created.
-    pub fn change(&mut self, obj: Obj, scn: Scn, definition: Option<Definition>) -> Result<(), Memory>
+    pub fn change(
+        &mut self,
+        obj: Obj,
+        scn: Scn,
+        definition: Option<Definition>,
+    ) -> Result<(), Memory>
         ensures ok { OnOk result (is_some (lookup (nat_eq obj) self.old) ≡ true → AddsStep self.old self.new obj (record { scn = scn; definition = definition })) }
         ensures err { OnErr result (self.new ≡ self.old) }
     {

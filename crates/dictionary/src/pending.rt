@@ -57,7 +57,13 @@ impl PendingChanges {
         match self.kept.get(&change).copied() {
             Some(pending) => {
                 let count = pending.count.checked_add(1).ok_or(Memory)?;
-                self.kept.insert(change, Pending { count, earlier: pending.earlier })?;
+                self.kept.insert(
+                    change,
+                    Pending {
+                        count,
+                        earlier: pending.earlier,
+                    },
+                )?;
                 Ok(false)
             }
             None => {

@@ -12,12 +12,13 @@ returns c =
     let new = c.match-get_mut.self-inside.kept.entries in
     let change = c.args.change in
     elim c.match-get_mut.branch [
-    in-Some w ↦ (
-    let was = w.in-Some.pending.now in
-    let had : Some was ≡ kept_at inside change = w.in-Some.ensures.value in
-    let put : Pending = record was { count = w.saturating_sub-pending.result } in
-    let lent = c.get_mut.follows.holds put in
-    sets_in_its_place old inside new change (Some put) _ c.self.view_is (rw w.self-inside-is (lent.3 (ap is_some (sym had))).0) (one_less_than old inside change was _ c.self.view_is had w.saturating_sub-pending.ensures))
-    | in_default w ↦ (
-    let same : new ≡ inside = rw (w.self-inside-is, c.get_mut.follows.holds-at-none) refl in
-    sets_as_it_was old inside new change c.self.view_is same (sym w.in_default.ensures.value)) ]
+      | in-Some w ↦ (
+          let was = w.in-Some.pending.now in
+          let had : Some was ≡ kept_at inside change = w.in-Some.ensures.value in
+          let put : Pending = record was { count = w.saturating_sub-pending.result } in
+          let lent = c.get_mut.follows.holds put in
+          sets_in_its_place old inside new change (Some put) _ c.self.view_is (rw w.self-inside-is (lent.3 (ap is_some (sym had))).0) (one_less_than old inside change was _ c.self.view_is had w.saturating_sub-pending.ensures))
+      | in_default w ↦ (
+          let same : new ≡ inside = rw (w.self-inside-is, c.get_mut.follows.holds-at-none) refl in
+          sets_as_it_was old inside new change c.self.view_is same (sym w.in_default.ensures.value))
+    ]

@@ -21,12 +21,14 @@ returns-clause-ok c db row h run in_memory =
     let had : running_at old c.args.txn ≡ Some was = sym c.get.ensures.value ∙ sym c.copied.ensures ∙ c.in-Some.is in
     let noted : c.if-running.noted ≡ (was.noted || memory) =
     elim c.if-running.branch [
-    then-running w ↦ w.noted-is ∙ w.if-running.true ∙ sym (ap (λ (b : Bool). b || memory) w.if-running.true)
-    | else-running w ↦ w.noted-is ∙ in_memory ∙ sym (ap (λ (b : Bool). b || memory) w.if-running.false) ] in
+      | then-running w ↦ w.noted-is ∙ w.if-running.true ∙ sym (ap (λ (b : Bool). b || memory) w.if-running.true)
+      | else-running w ↦ w.noted-is ∙ in_memory ∙ sym (ap (λ (b : Bool). b || memory) w.if-running.false)
+    ] in
     let latest : c.if-is_new.latest ≡ cond c.in_ok-is_new.is_new (Some place) was.latest =
     elim c.if-is_new.branch [
-    then-is_new w ↦ w.latest-is ∙ sym (ap (λ (b : Bool). cond b (Some place) was.latest) w.if-is_new.true)
-    | else-is_new w ↦ w.latest-is ∙ sym (ap (λ (b : Bool). cond b (Some place) was.latest) w.if-is_new.false) ] in
+      | then-is_new w ↦ w.latest-is ∙ sym (ap (λ (b : Bool). cond b (Some place) was.latest) w.if-is_new.true)
+      | else-is_new w ↦ w.latest-is ∙ sym (ap (λ (b : Bool). cond b (Some place) was.latest) w.if-is_new.false)
+    ] in
     let kept : Option Pending = Some (one_more was.latest (kept_at old.pending (change_of c.args.txn place))) in
     let sets : SetsAt old.pending c.keep.new.self.pending (change_of c.args.txn place) kept =
     subst (λ (l : List (Change × Pending)). SetsAt old.pending l (change_of c.args.txn place) kept) (sym c.keep.ensures.pending) c.in_ok-is_new.ensures.ok in
