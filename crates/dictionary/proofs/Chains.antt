@@ -1,10 +1,10 @@
 -- Chains of places.
-use Rattle.std.proofs.Common.{◌≡◌, ℕ, Bool, true, false, cond, not, ◌&&◌, ◌||◌, List, [], ◌∷◌, Option, Some, None, ◌⊎◌, inl, inr, refl, sym, ap, ◌∙◌, subst, is_some, eq-eqb}
+use Rattle.std.proofs.Common.{◌≡◌, ℕ, Bool, true, false, cond, ◌||◌, List, [], ◌∷◌, Option, Some, None, ◌⊎◌, inl, inr, refl, sym, ap, ◌∙◌, subst, is_some, eq-eqb}
 use Rattle.std.specs.List.{list_any}
 use Rattle.std.proofs.lemmas.Bool.{eqb-true, and_parts, and_from, or_cases, or_left, or_right, false≢true, true≢false, false_from_ne_true, cond-true, cond-false}
 use Rattle.adg_base.specs.Address.{Place}
 use Rattle.adg_model.specs.Database.{place, same_place}
-use Rattle.dictionary.specs.Pending.{Links, AreApart, IsChain, HasChain}
+use Rattle.dictionary.specs.Pending.{Links, IsChain, HasChain}
 
 pub same_place-true : (a b : Place) → same_place a b ≡ true → a ≡ b
 same_place-true a b same =

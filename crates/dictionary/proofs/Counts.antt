@@ -7,7 +7,7 @@ use Rattle.adg_model.specs.Database.{same_place}
 use Rattle.dictionary.specs.declared.change.Change.{Change}
 use Rattle.dictionary.specs.declared.change.Pending.{Pending}
 use Rattle.dictionary.specs.Pending.{kept_at, change_of, same_change, one_less, one_more, SetsAt, earlier_at, HasChain}
-use Rattle.dictionary.proofs.Chains.{same_place-true, same_place-refl, HasChain-less, HasChain-ends, HasChain-known}
+use Rattle.dictionary.proofs.Chains.{HasChain-less, HasChain-ends, HasChain-known}
 
 same_change-true : (a b : Change) → same_change a b ≡ true → a ≡ b
 same_change-true a b same =

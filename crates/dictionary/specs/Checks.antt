@@ -1,5 +1,5 @@
 -- What the checks of one entry find, and what becomes of a dictionary.
-use Rattle.std.specs.Prelude.{◌≡◌, ℕ, Bool, true, List, [], ◌∷◌, ◌++◌, Option, Some, None, Result, Ok, Err, OnOk, OnErr}
+use Rattle.std.specs.Prelude.{◌≡◌, ℕ, true, List, [], ◌∷◌, ◌++◌, Option, Some, Result}
 use Rattle.adg_base.specs.Address.{Place}
 use Rattle.adg_base.specs.declared.definition.Definition.{Definition}
 use Rattle.adg_base.specs.declared.vector.Vector.{Vector}

@@ -1,5 +1,5 @@
 -- The definitions that an object had, one after another.
-use Rattle.std.specs.Prelude.{ℕ, nat_le, if◌then◌else◌, List, [], ◌∷◌, Option, None}
+use Rattle.std.specs.Prelude.{ℕ, nat_le, if◌then◌else◌, List, [], ◌∷◌, Option}
 use Rattle.adg_base.specs.declared.definition.Definition.{Definition}
 use Rattle.dictionary.specs.declared.history.Step.{Step}
 

@@ -1,13 +1,12 @@
 -- What a dictionary stands for: a log, the entries that it accepted.
-use Rattle.std.specs.Prelude.{◌≡◌, ℕ, ◌≤◌, List, [], ◌∷◌, ◌++◌, length, Option, Some, None, Result, Ok, Err, OnOk, OnErr}
+use Rattle.std.specs.Prelude.{◌≡◌, ℕ, ◌≤◌, List, length, Option, Some, None, Result, Ok, Err}
 use Rattle.std.specs.List.{AllByRecursion}
-use Rattle.adg_base.specs.declared.vector.Vector.{Vector}
 use Rattle.adg_base.specs.declared.log.LogEntry.{LogEntry}
 use Rattle.adg_model.specs.declared.fault.CheckKind.{CheckKind}
 use Rattle.adg_model.specs.Spelling.{IsVector}
 use Rattle.adg_model.specs.Log.{numbered}
 use Rattle.adg_model.specs.Database.{database}
-use Rattle.adg_model.specs.Sound.{IsSound, ScnsWithin, refusal}
+use Rattle.adg_model.specs.Sound.{IsSound, ScnsWithin}
 use Rattle.dictionary.specs.declared.history.Step.{Step}
 use Rattle.dictionary.specs.declared.refused.RedoRefused.{RedoRefused}
 use Rattle.dictionary.specs.declared.refused.RedoRefused.TheVariants.{Check, Memory}

@@ -173,8 +173,8 @@ impl Dictionary {
             Ok(found) => found,
             Err(refused) => return Err(refused),
         };
-        let in_memory = definition.flag;
-        self.transactions.change(txn, addr, in_memory)?;
+        let noted = definition.flag;
+        self.transactions.change(txn, addr, noted)?;
         Ok(())
     }
 

@@ -48,7 +48,8 @@ impl PendingChanges {
     }
 
     /// Counts one more. Where nothing is kept of it, the address that its transaction changed before is
-    /// kept with it, and the answer is true.
+    /// kept with it, and the answer is true. A count of `2^64` would be want of memory too; the positions
+    /// of a log end before it.
     pub fn add(&mut self, change: Change, earlier: Option<Addr>) -> Result<bool, Memory>
         ensures is_new { IfOk result (λ new. new ≡ not (is_some (kept_at self.old change))) }
         ensures ok { OnOk result (SetsAt self.old self.new change (Some (one_more earlier (kept_at self.old change)))) }

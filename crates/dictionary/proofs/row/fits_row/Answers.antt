@@ -1,4 +1,4 @@
-use Rattle.std.proofs.Common.{◌≡◌, sym, ap, ◌∙◌}
+use Rattle.std.proofs.Common.{sym}
 use Rattle.dictionary.proofs.Rows.{fits_row-length}
 use Rattle.dictionary.proofs.row.fits_row.Goals as goal
 

@@ -1,5 +1,5 @@
-use Rattle.std.proofs.Common.{◌≡◌, true, false, not, refl, sym, ap, subst, ◌∙◌}
-use Rattle.adg_model.specs.Database.{database, table_at}
+use Rattle.std.proofs.Common.{◌≡◌, true, refl, sym, subst}
+use Rattle.adg_model.specs.Database.{database}
 use Rattle.adg_model.specs.Sound.{is_running}
 use Rattle.dictionary.specs.Standing.{Known, StandsFor}
 use Rattle.dictionary.proofs.Follows.{takes_up-transaction}

@@ -1,4 +1,4 @@
-use Rattle.std.proofs.Common.{◌≡◌, true, false, not, refl, sym, ap, subst, ◌∙◌}
+use Rattle.std.proofs.Common.{◌≡◌, false, refl, sym, subst, ◌∙◌}
 use Rattle.adg_model.specs.Database.{database}
 use Rattle.dictionary.specs.Standing.{Known, StandsFor}
 use Rattle.dictionary.proofs.Follows.{takes_up-transaction}

@@ -1,6 +1,4 @@
-use Rattle.std.proofs.Common.{◌≡◌, refl, sym, subst}
-use Rattle.adg_model.specs.Database.{database}
-use Rattle.dictionary.specs.Standing.{Known, StandsFor}
+use Rattle.std.proofs.Common.{refl}
 use Rattle.dictionary.proofs.Follows.{takes_up-transaction}
 use Rattle.dictionary.proofs.dictionary.Dictionary.check.Goals as goal
 

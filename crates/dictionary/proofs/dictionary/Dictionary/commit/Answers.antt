@@ -1,12 +1,8 @@
-use Rattle.std.proofs.Common.{◌≡◌, ℕ, List, Option, Some, None, true, false, not, refl, sym, ap, subst, ◌∙◌}
-use Rattle.adg_base.specs.Address.{Place}
-use Rattle.adg_model.specs.Database.{database, with_change, after}
-use Rattle.adg_model.specs.Sound.{is_running, fits_row}
-use Rattle.adg_base.specs.declared.vector.Vector.TheVariants.{Undo}
+use Rattle.std.proofs.Common.{◌≡◌, true, refl, sym, subst, ◌∙◌}
+use Rattle.adg_model.specs.Database.{database}
+use Rattle.adg_model.specs.Sound.{is_running}
 use Rattle.dictionary.specs.Standing.{Known, StandsFor}
-use Rattle.dictionary.specs.Transactions.{TracksIn}
-use Rattle.dictionary.specs.Checks.{IsPlaced}
-use Rattle.dictionary.proofs.Follows.{takes_up-transaction, answers-misplaced, passes-placed, placed-flag, passes-commit, passes-put, passes-undo, flag-is}
+use Rattle.dictionary.proofs.Follows.{takes_up-transaction, passes-commit, flag-is}
 use Rattle.dictionary.proofs.dictionary.Dictionary.commit.Goals as goal
 
 pub returns-clause-accepted : goal.returns-clause-accepted

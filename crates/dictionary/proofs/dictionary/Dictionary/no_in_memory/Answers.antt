@@ -1,12 +1,9 @@
-use Rattle.std.proofs.Common.{◌≡◌, ℕ, Bool, List, ◌++◌, [], ◌∷◌, length, nat_lt, Option, Some, None, true, false, not, refl, sym, ap, subst, ◌∙◌}
+use Rattle.std.proofs.Common.{ℕ, Option, Some, None, refl, sym, ap, subst}
 use Rattle.adg_base.specs.declared.definition.Definition.{Definition}
-use Rattle.adg_model.specs.Database.{Table, database, after, set_at, with_column, without_flag}
-use Rattle.adg_model.specs.Defined.{IsDefinition, AreDefined}
-use Rattle.adg_model.specs.Sound.{demand}
-use Rattle.adg_model.specs.declared.fault.CheckKind.TheVariants.{BadRow}
+use Rattle.adg_model.specs.Database.{Table, database, set_at, without_flag}
 use Rattle.dictionary.specs.Standing.{Known, StandsFor}
 use Rattle.dictionary.specs.Objects.{AddsStep}
-use Rattle.dictionary.proofs.Follows.{takes_up-change, takes_up-object, found, IsFound, passes-on_table}
+use Rattle.dictionary.proofs.Follows.{takes_up-change, found, IsFound, passes-on_table}
 use Rattle.dictionary.proofs.dictionary.Dictionary.no_in_memory.Goals as goal
 
 pub returns-clause-accepted : goal.returns-clause-accepted

@@ -1,5 +1,4 @@
-use Rattle.std.proofs.Common.{◌≡◌, Option, Some, None, sym, ap, subst, ◌∙◌}
-use Rattle.adg_base.specs.declared.definition.Definition.{Definition}
+use Rattle.std.proofs.Common.{Some, sym, subst}
 use Rattle.adg_model.specs.Database.{database}
 use Rattle.adg_model.specs.Defined.{AreDefined}
 use Rattle.dictionary.specs.Standing.{Known, StandsFor}

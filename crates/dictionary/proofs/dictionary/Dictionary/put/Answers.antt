@@ -1,12 +1,11 @@
-use Rattle.std.proofs.Common.{◌≡◌, ℕ, List, Option, Some, None, true, false, not, refl, sym, ap, subst, ◌∙◌}
+use Rattle.std.proofs.Common.{◌≡◌, Some, true, refl, sym, subst, ◌∙◌}
 use Rattle.adg_base.specs.Address.{Place}
-use Rattle.adg_model.specs.Database.{database, with_change, after}
-use Rattle.adg_model.specs.Sound.{is_running, fits_row}
-use Rattle.adg_base.specs.declared.vector.Vector.TheVariants.{Undo}
+use Rattle.adg_model.specs.Database.{database, with_change}
+use Rattle.adg_model.specs.Sound.{fits_row}
 use Rattle.dictionary.specs.Standing.{Known, StandsFor}
 use Rattle.dictionary.specs.Transactions.{TracksIn}
 use Rattle.dictionary.specs.Checks.{IsPlaced}
-use Rattle.dictionary.proofs.Follows.{takes_up-transaction, answers-misplaced, passes-placed, placed-flag, passes-commit, passes-put, passes-undo}
+use Rattle.dictionary.proofs.Follows.{takes_up-transaction, answers-misplaced, placed-flag, passes-put}
 use Rattle.dictionary.proofs.dictionary.Dictionary.put.Goals as goal
 
 pub returns-in-Err-clause-answer : goal.returns-in-Err-clause-answer

@@ -1,5 +1,4 @@
-use Rattle.std.proofs.Common.{◌≡◌, List, None, sym, ap, ◌∙◌}
-use Rattle.dictionary.specs.declared.history.Step.{Step}
+use Rattle.std.proofs.Common.{◌≡◌, None, sym, ap, ◌∙◌}
 use Rattle.dictionary.specs.History.{last_from}
 use Rattle.dictionary.proofs.Steps.{last_from-get}
 use Rattle.dictionary.proofs.history.History.latest.Goals as goal

@@ -1,4 +1,4 @@
-use Rattle.std.proofs.Common.{◌≡◌, ℕ, nat_eq, List, [], ◌∷◌, ◌++◌, Option, Some, sym, ap, ◌∙◌, unwrap_or, is_some}
+use Rattle.std.proofs.Common.{◌≡◌, ℕ, nat_eq, List, [], Option, Some, sym, ap, ◌∙◌, unwrap_or, is_some}
 use Rattle.std.specs.Map.{lookup}
 use Rattle.std.proofs.lemmas.Bool.{false≢true}
 use Rattle.std.proofs.lemmas.Map.Steps.{set_value_same}

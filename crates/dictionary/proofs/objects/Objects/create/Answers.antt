@@ -1,4 +1,4 @@
-use Rattle.std.proofs.Common.{◌≡◌, ℕ, nat_eq, List, [], ◌∷◌, ◌++◌, Option, Some, None, refl, sym, ap, ◌∙◌, unwrap_or}
+use Rattle.std.proofs.Common.{◌≡◌, ℕ, nat_eq, List, [], ◌∷◌, ◌++◌, Option, None, sym, ap, ◌∙◌, unwrap_or}
 use Rattle.std.specs.Map.{lookup}
 use Rattle.dictionary.specs.declared.history.Step.{Step}
 use Rattle.dictionary.proofs.Catalogs.{adds_step}

@@ -1,5 +1,5 @@
 use Rattle.std.proofs.Common.{◌≡◌, Some, None, sym, ◌∙◌}
-use Rattle.dictionary.specs.Pending.{kept_at, one_more}
+use Rattle.dictionary.specs.Pending.{kept_at}
 use Rattle.dictionary.proofs.Counts.{sets_in_its_place, one_more_than, one_more_than_none}
 use Rattle.dictionary.proofs.pending.PendingChanges.add.Goals as goal
 

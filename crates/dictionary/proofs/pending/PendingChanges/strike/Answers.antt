@@ -1,4 +1,4 @@
-use Rattle.std.proofs.Common.{◌≡◌, Some, refl, ap, ◌∙◌, is_some, sym}
+use Rattle.std.proofs.Common.{◌≡◌, Some, refl, ap, is_some, sym}
 use Rattle.dictionary.specs.declared.change.Pending.{Pending}
 use Rattle.dictionary.specs.Pending.{kept_at}
 use Rattle.dictionary.proofs.Counts.{sets_as_it_was, sets_in_its_place, one_less_than}

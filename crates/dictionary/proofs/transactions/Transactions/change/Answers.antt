@@ -1,4 +1,4 @@
-use Rattle.std.proofs.Common.{◌≡◌, ℕ, Bool, true, ◌||◌, cond, nat_eq, Option, Some, is_some, List, refl, ap, ap₂, sym, subst, ◌∙◌}
+use Rattle.std.proofs.Common.{◌≡◌, ℕ, Bool, ◌||◌, cond, nat_eq, Option, Some, is_some, List, ap, ap₂, sym, subst, ◌∙◌}
 use Rattle.dictionary.specs.Transactions.{Held, TracksIn, running_at}
 use Rattle.adg_base.specs.Address.{Place}
 use Rattle.adg_model.specs.Database.{Change as Played, is_in_memory}

@@ -1,4 +1,4 @@
-use Rattle.std.proofs.Common.{◌≡◌, Option, Some, None, is_some, true, ap, sym, subst, ◌∙◌}
+use Rattle.std.proofs.Common.{◌≡◌, Option, Some, None, is_some, ap, sym, subst, ◌∙◌}
 use Rattle.dictionary.specs.Transactions.{Held, TracksIn, running_at, latest_of}
 use Rattle.std.proofs.lemmas.Bool.{and_parts, false≢true}
 use Rattle.dictionary.specs.declared.change.Running.{Running}

@@ -1,4 +1,4 @@
-use Rattle.std.proofs.Common.{◌≡◌, Bool, ◌||◌, sym, ap, subst, ◌∙◌}
+use Rattle.std.proofs.Common.{Bool, ◌||◌, sym, ap, subst, ◌∙◌}
 use Rattle.dictionary.specs.Transactions.{Held, TracksIn, is_ended}
 use Rattle.dictionary.proofs.transactions.Transactions.is_begun.Goals as goal
 

@@ -1,4 +1,4 @@
-use Rattle.std.proofs.Common.{◌≡◌, nat_eq, cond, Some, is_some, ap, sym, ◌∙◌}
+use Rattle.std.proofs.Common.{nat_eq, cond, Some, is_some, ap, sym, ◌∙◌}
 use Rattle.dictionary.specs.Transactions.{Held, running_at}
 use Rattle.std.proofs.lemmas.Bool.{false≢true}
 use Rattle.dictionary.proofs.transactions.Transactions.keep.Goals as goal
