@@ -1,0 +1,20 @@
+use Rattle.std.proofs.Common.{ℕ, Option, None, refl, sym, subst}
+use Rattle.adg_base.specs.declared.definition.Definition.{Definition}
+use Rattle.adg_model.specs.Database.{database}
+use Rattle.dictionary.specs.Standing.{Known, StandsFor}
+use Rattle.dictionary.specs.Objects.{AddsStep}
+use Rattle.dictionary.proofs.Follows.{takes_up-change, found, IsFound, passes-on_table}
+use Rattle.dictionary.proofs.dictionary.Dictionary.drop_object.Goals as goal
+
+pub returns-clause-accepted : goal.returns-clause-accepted
+returns-clause-accepted c log e s f at is =
+    let db = database log in
+    let old : Known = record { transactions = c.self.inside.transactions; objects = c.self.inside.objects } in
+    let t : StandsFor old log = subst (λ (k : Known). StandsFor k log) (sym c.self.view_is) s in
+    let new : Known = record old { objects = c.change.new.self } in
+    let was = c.in-Some._definition.now in
+    let there : IsFound db old.objects c.args.obj was = found old.objects log c.args.obj was t.objects c.in-Some.ensures in
+    let made : Option Definition = None in
+    let adds : AddsStep old.objects new.objects c.args.obj (record { scn = e.scn; definition = made }) =
+    subst (λ (n : ℕ). AddsStep old.objects new.objects c.args.obj (record { scn = n; definition = made })) (sym at) (c.in_ok-change.ensures.ok there.known) in
+    takes_up-change old new log e _ t f is (passes-on_table db c.args.obj there.table (λ table. None) there.there) c.args.obj None made refl refl refl t.transactions adds tt there.created
