@@ -1,0 +1,8 @@
+//! One log of the redo of several threads: the records of each thread from its bytes, and their
+//! vectors in the order of SCN, thread and place.
+#![tactic(auto)]
+
+mod refused;
+mod thread;
+
+pub use refused::MergeRefused;

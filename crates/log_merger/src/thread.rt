@@ -1,0 +1,248 @@
+ghost use Rattle.std.specs.Prelude.{◌≡◌, ℕ, ◌+◌, ◌<◌, ◌≤◌, ◌^◌, ◌++◌, ◌∷◌, [], List, length, map, OnOk, OnErr, IfOk, IsSome, None};
+ghost use Rattle.std.specs.VecDeque.{deque_len, deque_capacity};
+ghost use Rattle.adg_base.specs.declared.vector.RedoRecord.{RedoRecord};
+ghost use Rattle.adg_model.specs.declared.fault.RedoFault.{RedoFault};
+ghost use Rattle.adg_model.specs.Records.{Raw, Mark, mark_of, first_mark};
+ghost use Rattle.adg_model.specs.Log.{record_entries};
+ghost use Rattle.redo_frames.specs.Assembly.{Holds, next_number, raw_of_record};
+ghost use Rattle.log_merger.specs.Thread.{HasRead, Takes, ReadsNext, ReadsOn, IsRead, IsFaultOf};
+
+use crate::refused::MergeRefused;
+use adg_base::log::LogEntry;
+use adg_base::memory::Memory;
+use adg_base::number::{Pos, Scn};
+use adg_base::vector::VectorList;
+use adg_model::fault::{RedoFault, RedoKind};
+use change_vectors::read::read_vectors;
+use change_vectors::refused::VectorsRefused;
+use redo_frames::{Assembler, FrameRefused, RawRecord};
+use std::alloc::Global;
+use std::collections::VecDeque;
+use std::marker::Model;
+
+/// The bytes of the shortest record.
+const SHORTEST: usize = 13;
+
+/// Where a thread stands: the SCN of its last whole record, 0 before the first, and whether it has
+/// ended.
+#[derive(Clone, Copy, Debug)]
+pub struct Standing {
+    last: Scn,
+    ended: bool,
+}
+
+impl Model for Standing {
+    ghost use Rattle.adg_model.specs.Records.{Mark};
+
+    ghost Value = { Mark };
+
+    ghost view = { λ s. record { scn = s.last; ended = s.ended } };
+
+    ghost inverse = { λ m. record { last = m.scn; ended = m.ended } };
+}
+
+impl Standing {
+    /// Before the first record.
+    fn at_start() -> Standing
+        ensures { result ≡ first_mark }
+    {
+        Standing {
+            last: Scn::ZERO,
+            ended: false,
+        }
+    }
+
+    /// After this record. It ends its thread where its one vector says so.
+    fn after(raw: &RawRecord) -> Standing
+        ensures { result ≡ mark_of (raw_of_record raw.now) }
+    {
+        Standing {
+            last: raw.scn,
+            ended: raw.count == 1 && matches!(raw.body.as_slice(), [0x0b, ..]),
+        }
+    }
+
+    /// The SCN of the last record.
+    pub fn last(self) -> Scn
+        ensures { result ≡ self.scn }
+    {
+        self.last
+    }
+
+    /// Whether the thread has ended.
+    pub fn has_ended(self) -> bool
+        ensures { result ≡ self.ended }
+    {
+        self.ended
+    }
+}
+
+/// The redo of one thread that was received and not given yet.
+#[derive(Debug, Drop)]
+pub struct RedoThread {
+    alloc: Global,
+    number: u8,
+    assembler: Assembler,
+    standing: Standing,
+    unread: VecDeque<RawRecord>,
+    waiting: VecDeque<LogEntry>,
+}
+
+impl Model for RedoThread {
+    ghost use Rattle.std.specs.Prelude.{◌<◌, ◌^◌};
+    ghost use Rattle.redo_frames.specs.Assembly.{next_number};
+    ghost use Rattle.log_merger.specs.Thread.{Receiving};
+
+    ghost Value = { Receiving };
+
+    ghost view = { λ t. record { number = t.number; assembly = t.assembler; mark = t.standing; unread = t.unread.items; waiting = t.waiting.items } };
+
+    ghost invariant = { λ t. next_number t.assembler < 2 ^ 64 };
+}
+
+/// Feeds a piece. Where the next record is refused the bytes change nothing.
+fn feed(assembler: &mut Assembler, piece: &[u8]) -> Result<(), Memory>
+    requires { next_number assembler.old + length piece.now < 2 ^ 64 }
+    ensures holds { OnOk result ((text : List ℕ) (records : List Raw) → Holds assembler.old text records → Holds assembler.new (text ++ piece.now) records) }
+    ensures again { IsSome assembler.old.refused → assembler.new ≡ assembler.old }
+    ensures memory { OnErr result (assembler.new ≡ assembler.old) }
+    ensures number { next_number assembler.new ≤ next_number assembler.old + length piece.now }
+{
+    match assembler.feed(piece) {
+        Err(FrameRefused::Memory) => Err(Memory),
+        Ok(()) | Err(FrameRefused::Refused { .. }) => Ok(()),
+    }
+}
+
+/// Takes the records that an assembler holds.
+fn take_all(
+    assembler: &mut Assembler,
+    standing: &mut Standing,
+    unread: &mut VecDeque<RawRecord>,
+) -> Result<(), Memory>
+    ensures takes { OnOk result (Takes assembler.old assembler.new standing.old standing.new unread.old.items unread.new.items) }
+    ensures full { OnErr result (deque_capacity unread.old < deque_len unread.old + length assembler.old.held) }
+    ensures number { next_number assembler.new ≡ next_number assembler.old }
+{
+    while let Some(record) = assembler.take() {
+        *standing = Standing::after(&record);
+        unread.push_back(record)?;
+    }
+    Ok(())
+}
+
+/// Adds the vectors of a record to the entries that wait, or none of them.
+fn push_entries(
+    waiting: &mut VecDeque<LogEntry>,
+    thread: u8,
+    number: u64,
+    scn: Scn,
+    vectors: VectorList,
+) -> Result<(), Memory>
+    requires { length vectors < 2 ^ 8 }
+    ensures ok { OnOk result (waiting.new.items ≡ waiting.old.items ++ record_entries thread number scn 1 vectors) }
+    ensures memory { OnErr result (waiting.new.items ≡ waiting.old.items) }
+{
+    waiting.try_reserve(vectors.len())?;
+    let mut index = 0;
+    for vector in vectors.into_vec() {
+        index += 1;
+        waiting.push_back_reserved(LogEntry {
+            pos: Pos::new(0),
+            scn,
+            thread,
+            number,
+            index,
+            vector,
+        });
+    }
+    Ok(())
+}
+
+impl RedoThread {
+    /// A thread of which nothing was received.
+    pub fn new(alloc: Global, number: u8) -> RedoThread
+        ensures number { result.number ≡ number }
+        ensures read { HasRead result [] [] }
+        ensures waiting { result.waiting ≡ [] }
+        ensures next { next_number result.assembly ≡ 1 }
+    {
+        RedoThread {
+            alloc,
+            number,
+            assembler: Assembler::new(alloc),
+            standing: Standing::at_start(),
+            unread: VecDeque::new(alloc),
+            waiting: VecDeque::new(alloc),
+        }
+    }
+
+    /// Receives the next bytes. There is room for the records that they can complete before the first
+    /// of them is looked at, so all of them are received or none.
+    pub fn accept(&mut self, piece: &[u8]) -> Result<(), Memory>
+        requires { next_number self.old.assembly + length piece.now < 2 ^ 64 }
+        ensures ok { OnOk result ((text : List ℕ) (records : List RedoRecord) → HasRead self.old text records → HasRead self.new (text ++ piece.now) records) }
+        ensures memory { OnErr result ((text : List ℕ) (records : List RedoRecord) → HasRead self.old text records → HasRead self.new text records) }
+        ensures number { self.new.number ≡ self.old.number }
+        ensures waiting { self.new.waiting ≡ self.old.waiting }
+        ensures next { next_number self.new.assembly ≤ next_number self.old.assembly + length piece.now }
+    {
+        self.unread.try_reserve(piece.len() / SHORTEST + 1)?;
+        feed(&mut self.assembler, piece)?;
+        take_all(
+            &mut self.assembler,
+            &mut self.standing,
+            &mut self.unread,
+        )
+    }
+
+    /// Reads the vectors of the first unread record. Gives whether there was one.
+    fn read_next(&mut self) -> Result<bool, MergeRefused>
+        ensures { ReadsNext self.old self.new result }
+    {
+        let Some(record) = self.unread.front() else {
+            return Ok(false);
+        };
+        match read_vectors(self.alloc, record.body.as_slice(), record.count) {
+            Ok(vectors) => {
+                let (number, scn) = (record.number, record.scn);
+                push_entries(&mut self.waiting, self.number, number, scn, vectors)?;
+                let _ = self.unread.pop_front();
+                Ok(true)
+            }
+            Err(VectorsRefused::BadVector { index }) => Err(MergeRefused::Redo(RedoFault {
+                thread: self.number,
+                number: record.number,
+                kind: RedoKind::BadVector { index },
+            })),
+            Err(VectorsRefused::Memory) => Err(MergeRefused::Memory),
+        }
+    }
+
+    /// The refusal of the record that comes next, where its frame is bad.
+    fn check_next(&self) -> Result<(), MergeRefused>
+        ensures good { OnOk result (self.now.assembly.refused ≡ None) }
+        ensures bad { (fault : RedoFault) → result ≡ Err (MergeRefused.Redo fault) → self.now.unread ≡ [] → IsFaultOf self.now fault }
+    {
+        match self.assembler.check() {
+            Ok(()) => Ok(()),
+            Err(FrameRefused::Refused { number, kind }) => Err(MergeRefused::Redo(RedoFault {
+                thread: self.number,
+                number,
+                kind: RedoKind::Frame(kind),
+            })),
+            Err(FrameRefused::Memory) => Err(MergeRefused::Memory),
+        }
+    }
+
+    /// Reads the vectors of all records. A bad vector of a record comes before the bad frame of a later
+    /// one.
+    pub fn read(&mut self) -> Result<(), MergeRefused>
+        ensures reads { ReadsOn self.old self.new }
+        ensures all { OnOk result (IsRead self.new) }
+        ensures bad { (fault : RedoFault) → result ≡ Err (MergeRefused.Redo fault) → IsFaultOf self.old fault }
+    {
+        while self.read_next()? {}
+        self.check_next()
+    }
+}
