@@ -1,1 +1,4 @@
 pub mod ThreadLaws
+pub mod Orders
+pub mod Queues
+pub mod Frontiers

@@ -1,1 +1,3 @@
 pub mod Thread
+pub mod Merge
+pub mod Merger

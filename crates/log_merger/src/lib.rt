@@ -2,7 +2,10 @@
 //! vectors in the order of SCN, thread and place.
 #![tactic(auto)]
 
+mod merge;
+mod merger;
 mod refused;
 mod thread;
 
+pub use merger::Merger;
 pub use refused::MergeRefused;

@@ -1,4 +1,4 @@
-ghost use Rattle.std.specs.Prelude.{◌≡◌, ℕ, ◌+◌, ◌<◌, ◌≤◌, ◌^◌, ◌++◌, ◌∷◌, [], List, length, map, OnOk, OnErr, IfOk, IsSome, None};
+ghost use Rattle.std.specs.Prelude.{◌≡◌, ℕ, ◌+◌, ◌<◌, ◌≤◌, ◌^◌, ◌++◌, ◌∷◌, [], List, length, map, OnOk, OnErr, IfOk, IsSome, None, MatchOption};
 ghost use Rattle.std.specs.VecDeque.{deque_len, deque_capacity};
 ghost use Rattle.adg_base.specs.declared.vector.RedoRecord.{RedoRecord};
 ghost use Rattle.adg_model.specs.declared.fault.RedoFault.{RedoFault};
@@ -6,6 +6,7 @@ ghost use Rattle.adg_model.specs.Records.{Raw, Mark, mark_of, first_mark};
 ghost use Rattle.adg_model.specs.Log.{record_entries};
 ghost use Rattle.redo_frames.specs.Assembly.{Holds, next_number, raw_of_record};
 ghost use Rattle.log_merger.specs.Thread.{HasRead, Takes, ReadsNext, ReadsOn, IsRead, IsFaultOf};
+ghost use Rattle.log_merger.specs.Merge.{KeepsRest, count_upto, first_scn};
 
 use crate::refused::MergeRefused;
 use adg_base::log::LogEntry;
@@ -244,5 +245,44 @@ impl RedoThread {
     {
         while self.read_next()? {}
         self.check_next()
+    }
+
+    /// Where it stands after the whole records.
+    pub fn standing(&self) -> Standing
+        ensures { result ≡ self.now.mark }
+    {
+        self.standing
+    }
+
+    /// How many entries wait up to an SCN.
+    pub fn count_upto(&self, through: Scn) -> usize
+        ensures { result ≡ count_upto through self.now.waiting }
+    {
+        let mut count = 0;
+        while let Some(entry) = self.waiting.get(count) {
+            if through < entry.scn {
+                return count;
+            }
+            count += 1;
+        }
+        count
+    }
+
+    /// The SCN of the first entry that waits, or this number where there is none.
+    pub fn first_scn(&self, none: u64) -> u64
+        ensures { result ≡ first_scn none self.now.waiting }
+    {
+        match self.waiting.front() {
+            Some(entry) => entry.scn.get(),
+            None => none,
+        }
+    }
+
+    /// The first entry that waits.
+    pub fn give(&mut self) -> Option<LogEntry>
+        ensures entry { MatchOption result ((self.old.waiting ≡ []) × (self.new.waiting ≡ [])) (λ entry. self.old.waiting ≡ entry ∷ self.new.waiting) }
+        ensures rest { KeepsRest self.old self.new }
+    {
+        self.waiting.pop_front()
     }
 }
