@@ -4,7 +4,7 @@ use Rattle.std.proofs.lemmas.List.{map-append}
 use Rattle.std.proofs.lemmas.List.Elements.{filter-append}
 use Rattle.adg_model.specs.Records.{Mark}
 use Rattle.adg_model.specs.Log.{least, greatest, is_open, scns_of, or_greatest}
-use Rattle.log_merger.specs.Merge.{frontier_of}
+use Rattle.log_merger.specs.Merge.{frontier_of, least_with}
 
 -- the least of some numbers, where there is one
 abbrev pub IsLeast : Option ℕ → List ℕ → Type 0
@@ -30,11 +30,6 @@ pub ended-next : (least_so_far : Option ℕ) (ms : List Mark) (m : Mark) → m.e
 ended-next o ms m e h =
     subst (IsLeast o) (sym (open-next ms m ∙ ap (λ (b : Bool). scns_of (filter is_open ms) ++ scns_of (cond (not b) (m ∷ []) [])) e ∙ append-nil (scns_of (filter is_open ms)))) h
 
--- the least with one more
-abbrev pub least_with : Option ℕ → ℕ → ℕ
-least_with None n = n
-least_with (Some m) n = min m n
-
 least-next : (o : Option ℕ) (ns : List ℕ) (n : ℕ) → IsLeast o ns → IsLeast (Some (least_with o n)) (ns ++ n ∷ [])
 least-next None ns n h = subst (λ (l : List ℕ). IsLeast (Some n) (l ++ n ∷ [])) (sym h) (omega arith, refl)
 least-next (Some m) ns n h = (omega (arith, length-append ns (n ∷ [])), ap (λ (k : ℕ). min k n) h.1 ∙ sym (least-push ns n h.0))
@@ -49,7 +44,7 @@ frontier-some n marks h = by_list (scns_of (filter is_open marks)) h
   where
     by_list : (ns : List ℕ) → IsLeast (Some n) ns → n ≡ or_greatest ns (scns_of marks)
     by_list [] k = absurd (omega (arith, k.0))
-    by_list (a ∷ as) k = k.1
+    by_list (a ∷ more) k = k.1
 
 pub frontier-none : (n : ℕ) (marks : List Mark) → IsLeast None (scns_of (filter is_open marks)) → n ≡ greatest (scns_of marks) → n ≡ frontier_of marks
 frontier-none n marks h e = e ∙ ap (λ (ns : List ℕ). or_greatest ns (scns_of marks)) (sym h)

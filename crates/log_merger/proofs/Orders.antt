@@ -160,10 +160,10 @@ upto-above low high [] = refl
 upto-above low high (e ∷ es) = by_scn (low_or_high low e) (low_or_high high e) (upto-above low high es)
   where
     by_scn : (e.scn ≤ low) ⊎ (low < e.scn) → (e.scn ≤ high) ⊎ (high < e.scn) → upto high (above low es) ≡ above low (upto high es) → upto high (above low (e ∷ es)) ≡ above low (upto high (e ∷ es))
-    by_scn (inl p) (inl q) ih = rw ((tests_low low e p).1, (tests_low high e q).0) ih
-    by_scn (inl p) (inr q) ih = rw ((tests_low low e p).1, (tests_high high e q).0) ih
-    by_scn (inr p) (inl q) ih = rw ((tests_high low e p).1, (tests_low high e q).0) (ap (λ l. e ∷ l) ih)
-    by_scn (inr p) (inr q) ih = rw ((tests_high low e p).1, (tests_high high e q).0) ih
+    by_scn (inl p) (inl q) ih = simp ((tests_low low e p).1, (tests_low high e q).0) ih
+    by_scn (inl p) (inr q) ih = simp ((tests_low low e p).1, (tests_high high e q).0) ih
+    by_scn (inr p) (inl q) ih = simp ((tests_high low e p).1, (tests_low high e q).0) (ap (λ l. e ∷ l) ih)
+    by_scn (inr p) (inr q) ih = simp ((tests_high low e p).1, (tests_high high e q).0) ih
 
 -- where nothing is up to an SCN all is above it
 pub all_above : (scn : ℕ) (es : List LogEntry) → upto scn es ≡ [] → above scn es ≡ es

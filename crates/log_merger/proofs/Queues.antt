@@ -1,14 +1,15 @@
 -- Taking the first entry of several queues.
-use Rattle.std.proofs.Common.{◌≡◌, ℕ, ◌+◌, ◌<◌, ◌≤◌, Bool, true, false, cond, nat_le, nat_lt, List, [], ◌∷◌, ◌++◌, length, get_or, map, filter, zero, suc, refl, sym, ap, ap₂, ◌∙◌, subst, arith, append_assoc, append-nil, length-append}
+use Rattle.std.proofs.Common.{◌≡◌, ℕ, ◌+◌, ◌<◌, ◌≤◌, Bool, true, false, cond, nat_le, nat_lt, List, [], ◌∷◌, ◌++◌, length, get_or, map, filter, zero, suc, Option, Some, None, MatchOption, inl, inr, refl, sym, ap, ap₂, ◌∙◌, subst, arith, append_assoc, append-nil, length-append}
 use Rattle.std.proofs.Math.ListN.{set}
 use Rattle.std.specs.List.{AllByRecursion, AllZip, flat_map, sum_by}
-use Rattle.std.proofs.lemmas.Bool.{le-leb, leb-false}
-use Rattle.std.proofs.lemmas.List.{nil_from_length}
+use Rattle.std.proofs.lemmas.Bool.{le-leb, leb-false, cases_lt}
+use Rattle.std.proofs.lemmas.List.{nil_from_length, get_or-map, length-map}
+use Rattle.std.proofs.lemmas.List.Sums.{sum_by-cons}
 use Rattle.adg_base.specs.declared.log.LogEntry.{LogEntry}
 use Rattle.adg_model.specs.Log.{comes_before, in_order, numbered, upto}
 use Rattle.adg_model.proofs.LogLaws.{each-append, each_weaker, upto_none, upto-append, before_by_scn}
 use Rattle.log_merger.specs.Thread.{Receiving}
-use Rattle.log_merger.specs.Merge.{above, all_waiting, Rises, AreQueues, count_upto, count_all, first_scn, first_scns, TakesFirst, Merges}
+use Rattle.log_merger.specs.Merge.{above, all_waiting, Rises, AreQueues, count_upto, count_all, first_scn, first_scns, IsFirstLeast, KeepsRest, TakesFirst, TakesNext, Merges}
 use Rattle.log_merger.proofs.Orders.{each-filter, scn_if_before, before_by_place, in_order-first, length-in_order, tests_low, tests_high, all_above, numbered-push, length-numbered}
 
 -- all entries of a queue are at or above its first
@@ -137,6 +138,75 @@ takes-first scn ts i d m e h lt first le least before = record {
       (sym (ap (above scn) first ∙ ap (λ c. cond c (e ∷ above scn m.waiting) (above scn m.waiting)) (tests_low scn e le).1));
 }
 
+-- what was taken from the thread that the search found
+pub takes-next : (scn : ℕ) (ts : List Receiving) (i : ℕ) (d m : Receiving) (r : Option LogEntry) → AreQueues 1 ts → IsFirstLeast (scn + 1) (first_scns (scn + 1) ts) (Some i)
+    → MatchOption r (((get_or ts i d).waiting ≡ []) × (m.waiting ≡ [])) (λ e. (get_or ts i d).waiting ≡ e ∷ m.waiting) → TakesNext scn ts (set ts i m) r
+takes-next scn ts i d m r h least given = by_result r given
+  where
+    within : i < length ts
+    within = omega (arith, least.0, length-map ts (λ (t : Receiving). first_scn (scn + 1) t.waiting))
+    front : get_or (first_scns (scn + 1) ts) i 0 ≡ first_scn (scn + 1) (get_or ts i d).waiting
+    front = get_or-map (λ (t : Receiving). first_scn (scn + 1) t.waiting) ts i d 0 within
+    by_result : (o : Option LogEntry) → MatchOption o (((get_or ts i d).waiting ≡ []) × (m.waiting ≡ [])) (λ e. (get_or ts i d).waiting ≡ e ∷ m.waiting) → TakesNext scn ts (set ts i m) o
+    by_result None k =
+        let none : first_scn (scn + 1) (get_or ts i d).waiting ≡ scn + 1 = ap (first_scn (scn + 1)) k.0 in
+        absurd (omega (arith, least.1, front, none))
+    by_result (Some e) k =
+        let scn_is : get_or (first_scns (scn + 1) ts) i 0 ≡ e.scn = front ∙ ap (first_scn (scn + 1)) k in
+        takes-first scn ts i d m e h within k (omega (arith, scn_is, least.1))
+        (λ n lt. omega (arith, scn_is, least.2 n lt)) (λ n lt. omega (arith, scn_is, least.3 n lt))
+
+-- ---- the search
+
+-- the first of the least among the first numbers, where it is below a limit
+pub record Searching (limit : ℕ) (ns : List ℕ) (i least : ℕ) (found : Option ℕ) : Type 0 where
+  pub low : (k : ℕ) → k < i → least ≤ get_or ns k 0
+  pub found_is : MatchOption found (least ≡ limit) (λ j. (j < i) × (least < limit) × (least ≡ get_or ns j 0) × ((k : ℕ) → k < j → least < get_or ns k 0))
+
+pub searching-start : (limit : ℕ) (ns : List ℕ) → Searching limit ns 0 limit None
+searching-start limit ns = record { low = λ k lt. absurd (omega (arith, lt)); found_is = refl }
+
+searching-limit : (limit : ℕ) (ns : List ℕ) (i least : ℕ) (found : Option ℕ) → Searching limit ns i least found → least ≤ limit
+searching-limit limit ns i least None s = omega (arith, s.found_is)
+searching-limit limit ns i least (Some j) s = omega (arith, s.found_is.1)
+
+pub searching-less : (limit : ℕ) (ns : List ℕ) (i least scn : ℕ) (found : Option ℕ) → Searching limit ns i least found → scn ≡ get_or ns i 0 → scn < least → Searching limit ns (i + 1) scn (Some i)
+searching-less limit ns i least scn found s at less =
+    let below = searching-limit limit ns i least found s in
+    record {
+      low = λ k lt. elim (cases_lt k i) [
+          | inl earlier ↦ omega (arith, s.low k earlier, less)
+          | inr same ↦ (let e : k ≡ i = omega (arith, lt, same) in subst (λ (n : ℕ). scn ≤ get_or ns n 0) (sym e) (omega (arith, at)))
+        ];
+      found_is = (omega arith, omega (arith, below, less), at, λ k lt. omega (arith, s.low k lt, less));
+    }
+
+pub searching-more : (limit : ℕ) (ns : List ℕ) (i least scn : ℕ) (found : Option ℕ) → Searching limit ns i least found → scn ≡ get_or ns i 0 → least ≤ scn → Searching limit ns (i + 1) least found
+searching-more limit ns i least scn found s at more = record {
+  low = λ k lt. elim (cases_lt k i) [
+      | inl earlier ↦ s.low k earlier
+      | inr same ↦ (let e : k ≡ i = omega (arith, lt, same) in subst (λ (n : ℕ). least ≤ get_or ns n 0) (sym e) (omega (arith, at, more)))
+    ];
+  found_is = by_found found s.found_is;
+}
+  where
+    by_found : (o : Option ℕ) → MatchOption o (least ≡ limit) (λ j. (j < i) × (least < limit) × (least ≡ get_or ns j 0) × ((k : ℕ) → k < j → least < get_or ns k 0))
+        → MatchOption o (least ≡ limit) (λ j. (j < i + 1) × (least < limit) × (least ≡ get_or ns j 0) × ((k : ℕ) → k < j → least < get_or ns k 0))
+    by_found None k = k
+    by_found (Some j) k = (omega (arith, k.0), k.1, k.2, k.3)
+
+pub searching-end : (limit : ℕ) (ns : List ℕ) (i least : ℕ) (found : Option ℕ) → Searching limit ns i least found → i ≡ length ns → IsFirstLeast limit ns found
+searching-end limit ns i least None s all = λ k lt. omega (arith, s.low k (omega (arith, lt, all)), s.found_is)
+searching-end limit ns i least (Some j) s all =
+    let f = s.found_is in
+    (omega (arith, f.0, all), omega (arith, f.1, f.2), λ k lt. omega (arith, s.low k (omega (arith, lt, all)), f.2), λ k lt. omega (arith, f.3 k lt, f.2))
+
+pub keeps-same : (ts : List Receiving) → AllZip KeepsRest ts ts
+keeps-same ts = zip-same KeepsRest (λ x. refl) ts
+
+pub keeps-trans : (xs ys zs : List Receiving) → AllZip KeepsRest xs ys → AllZip KeepsRest ys zs → AllZip KeepsRest xs zs
+keeps-trans xs ys zs h k = zip-trans KeepsRest (λ x y z p q. q ∙ ap (λ (t : Receiving). record t { waiting = z.waiting }) p) xs ys zs h k
+
 -- ---- counting
 
 count-ordered : (scn : ℕ) (es : List LogEntry) → Rises es → count_upto scn es ≡ length (upto scn es)
@@ -155,7 +225,8 @@ count-waiting scn thread (t ∷ ts) h =
     let here = count-ordered scn t.waiting h.0 in
     let later = count-waiting scn (thread + 1) ts h.2 in
     let both = ap length (upto-append scn t.waiting (all_waiting ts)) in
-    omega (arith, here, later, both, length-append (upto scn t.waiting) (upto scn (all_waiting ts)))
+    let sum = sum_by-cons (λ (r : Receiving). count_upto scn r.waiting) t ts in
+    omega (arith, here, later, both, sum, length-append (upto scn t.waiting) (upto scn (all_waiting ts)))
 
 -- ---- the loop of a merge
 

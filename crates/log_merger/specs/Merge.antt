@@ -1,5 +1,5 @@
 -- The entries that wait over all threads, and giving the first of them.
-use Rattle.std.specs.Prelude.{◌≡◌, ℕ, ◌+◌, ◌<◌, ◌≤◌, true, nat_le, nat_lt, if◌then◌else◌, List, [], ◌∷◌, length, get_or, map, filter, sum_by, Option, None, Some}
+use Rattle.std.specs.Prelude.{◌≡◌, ℕ, ◌+◌, ◌<◌, ◌≤◌, true, nat_le, nat_lt, if◌then◌else◌, List, [], ◌∷◌, length, get_or, map, filter, sum_by, min, Option, None, Some}
 use Rattle.std.specs.List.{flat_map, AllByRecursion, AllZip}
 use Rattle.adg_base.specs.declared.log.LogEntry.{LogEntry}
 use Rattle.adg_model.specs.Records.{Mark}
@@ -20,6 +20,11 @@ marks_of threads = map (λ t. t.mark) threads
 
 abbrev pub frontier_of : List Mark → ℕ
 frontier_of marks = or_greatest (scns_of (filter is_open marks)) (scns_of marks)
+
+-- the lesser of a number and the least so far
+abbrev pub least_with : Option ℕ → ℕ → ℕ
+least_with None n = n
+least_with (Some m) n = min m n
 
 -- each entry comes before all that follow it
 abbrev pub Rises : List LogEntry → Type 0

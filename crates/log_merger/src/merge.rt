@@ -1,6 +1,6 @@
-ghost use Rattle.std.specs.Prelude.{◌≡◌, ◌+◌, ◌<◌, ◌≤◌, ◌^◌, [], ◌∷◌, IfOk, IfSome, OnErr, MatchOption, min, vec_len};
+ghost use Rattle.std.specs.Prelude.{◌≡◌, ◌+◌, ◌<◌, ◌≤◌, ◌^◌, [], ◌∷◌, IfOk, IfSome, OnErr, max, vec_len};
 ghost use Rattle.std.specs.List.{AllZip};
-ghost use Rattle.log_merger.specs.Merge.{AreQueues, IsFirstLeast, KeepsRest, Merges, TakesNext, count_all, first_scns, frontier_of, marks_of};
+ghost use Rattle.log_merger.specs.Merge.{AreQueues, IsFirstLeast, KeepsRest, Merges, TakesNext, count_all, first_scns, frontier_of, least_with, marks_of};
 
 use crate::thread::RedoThread;
 use adg_base::log::LogEntry;
@@ -10,12 +10,19 @@ use std::alloc::Global;
 
 /// The lesser of an SCN and the least so far.
 fn least_with(least: Option<Scn>, scn: Scn) -> Scn
-    ensures { MatchOption least (result ≡ scn) (λ least. result ≡ min least scn) }
+    ensures { result ≡ least_with least scn }
 {
     match least {
         Some(least) if least < scn => least,
         _ => scn,
     }
+}
+
+/// The later of two SCNs.
+fn later(one: Scn, other: Scn) -> Scn
+    ensures { result ≡ max one other }
+{
+    if one < other { other } else { one }
 }
 
 /// The least SCN at which a thread stands that has not ended. Where all have, the greatest of all.
@@ -26,9 +33,7 @@ pub fn frontier(threads: &[RedoThread]) -> Scn
     let mut greatest = Scn::ZERO;
     for thread in threads {
         let standing = thread.standing();
-        if greatest < standing.last() {
-            greatest = standing.last();
-        }
+        greatest = later(greatest, standing.last());
         if !standing.has_ended() {
             least = Some(least_with(least, standing.last()));
         }
