@@ -2,3 +2,4 @@ pub mod ThreadLaws
 pub mod Orders
 pub mod Queues
 pub mod Frontiers
+pub mod Merged

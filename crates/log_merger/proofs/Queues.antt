@@ -126,8 +126,8 @@ none-waits scn thread (t ∷ ts) h least =
     let scns = each_weaker (λ x. first_scn (scn + 1) t.waiting ≤ x.scn) (λ x. scn < x.scn) (λ x k. omega (arith, k, least.0)) t.waiting (first-least (scn + 1) t.waiting h.0) in
     upto-append scn t.waiting (all_waiting ts) ∙ ap₂ (λ a b. a ++ b) (upto_none scn t.waiting scns) (none-waits scn (thread + 1) ts h.2 least.1)
 
-pub takes-none : (scn : ℕ) (ts : List Receiving) → AreQueues 1 ts → ((k : ℕ) → k < length (first_scns (scn + 1) ts) → scn + 1 ≤ get_or (first_scns (scn + 1) ts) k 0) → upto scn (all_waiting ts) ≡ []
-takes-none scn ts h least = none-waits scn 1 ts h (at-least (scn + 1) (scn + 1) ts least)
+pub takes-none : (scn : ℕ) (ts : List Receiving) → AreQueues 1 ts → IsFirstLeast (scn + 1) (first_scns (scn + 1) ts) None → TakesNext scn ts ts None
+takes-none scn ts h least = (refl, none-waits scn 1 ts h (at-least (scn + 1) (scn + 1) ts least))
 
 pub takes-first : (scn : ℕ) (ts : List Receiving) (i : ℕ) (d m : Receiving) (e : LogEntry) → AreQueues 1 ts → i < length ts → (get_or ts i d).waiting ≡ e ∷ m.waiting → e.scn ≤ scn
     → ((k : ℕ) → k < length (first_scns (scn + 1) ts) → e.scn ≤ get_or (first_scns (scn + 1) ts) k 0) → ((k : ℕ) → k < i → e.scn < get_or (first_scns (scn + 1) ts) k 0) → TakesFirst scn ts (set ts i m) e

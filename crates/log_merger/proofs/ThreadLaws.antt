@@ -109,23 +109,23 @@ room-many m (r ∷ rs) rest piece last h part e =
     let lengths = ap (λ (t : List ℕ). length t) parts in
     omega (arith, less, many, lengths, length-append rest piece, length-append (raw_bytes r) (later ++ last), length-append later last)
 
-record Front (m : Mark) (text : List ℕ) (xs : List Raw) : Type 0 where
-  tail : List ℕ
-  spelled : text ≡ flat_map raw_bytes xs ++ tail
-  follow : AreRaws m xs
+pub record Front (m : Mark) (text : List ℕ) (xs : List Raw) : Type 0 where
+  pub tail : List ℕ
+  pub spelled : text ≡ flat_map raw_bytes xs ++ tail
+  pub follow : AreRaws m xs
 
-front-of : (o : Option FrameKind) (m : Mark) (text : List ℕ) (xs : List Raw) (rest : List ℕ) → Stands o m text xs rest → Front m text xs
+pub front-of : (o : Option FrameKind) (m : Mark) (text : List ℕ) (xs : List Raw) (rest : List ℕ) → Stands o m text xs rest → Front m text xs
 front-of None m text xs rest s = record { tail = rest; spelled = s.spelled; follow = s.follow }
 front-of (Some k) m text xs rest s = record { tail = s.rest; spelled = s.spelled; follow = s.follow }
 
 regrouped : (xs ys : List Raw) (text rest : List ℕ) → text ≡ flat_map raw_bytes (xs ++ ys) ++ rest → text ≡ flat_map raw_bytes xs ++ (flat_map raw_bytes ys ++ rest)
 regrouped xs ys text rest e = e ∙ ap (λ (t : List ℕ). t ++ rest) (flat_map-append raw_bytes xs ys) ∙ append_assoc (flat_map raw_bytes xs) (flat_map raw_bytes ys) rest
 
-raws-front : (m : Mark) (xs ys : List Raw) → AreRaws m (xs ++ ys) → AreRaws m xs
+pub raws-front : (m : Mark) (xs ys : List Raw) → AreRaws m (xs ++ ys) → AreRaws m xs
 raws-front m [] ys h = tt
 raws-front m (x ∷ xs) ys h = (h.0, h.1, h.2, raws-front (mark_of x) xs ys h.3)
 
-raws-back : (m : Mark) (xs ys : List Raw) → AreRaws m (xs ++ ys) → AreRaws (mark_after m xs) ys
+pub raws-back : (m : Mark) (xs ys : List Raw) → AreRaws m (xs ++ ys) → AreRaws (mark_after m xs) ys
 raws-back m [] ys h = h
 raws-back m (x ∷ xs) ys h = raws-back (mark_of x) xs ys h.3
 

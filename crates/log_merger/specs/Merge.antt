@@ -69,9 +69,9 @@ pub record TakesFirst (scn : ℕ) (old new : List Receiving) (entry : LogEntry) 
   pub queues : AreQueues 1 new
   pub later : AllZip (λ o n. above scn n.waiting ≡ above scn o.waiting) old new
 
--- what taking the first entry gives
+-- what taking the first entry gives, or that none waits
 abbrev pub TakesNext : ℕ → List Receiving → List Receiving → Option LogEntry → Type 0
-TakesNext scn old new None = upto scn (all_waiting old) ≡ []
+TakesNext scn old new None = (new ≡ old) × (upto scn (all_waiting old) ≡ [])
 TakesNext scn old new (Some entry) = TakesFirst scn old new entry
 
 -- All entries that waited up to an SCN were given, in order and with positions from one on, and the

@@ -1,10 +1,11 @@
-use Rattle.std.proofs.Common.{◌≡◌, ◌++◌, ◌∷◌, [], List, take, ap, sym, subst, ◌∙◌, arith, filter}
+use Rattle.std.proofs.Common.{◌≡◌, ◌+◌, ◌++◌, ◌∷◌, [], List, Option, Some, max, take, get_or, ap, ap₂, sym, subst, ◌∙◌, arith, filter}
+use Rattle.std.proofs.lemmas.Bool.{not-true, not-false}
 use Rattle.std.proofs.lemmas.List.{take_more, map-append}
 use Rattle.adg_model.specs.Records.{Mark}
 use Rattle.adg_model.specs.Log.{greatest, is_open, scns_of}
 use Rattle.log_merger.specs.Thread.{Receiving}
-use Rattle.log_merger.specs.Merge.{marks_of}
-use Rattle.log_merger.proofs.Frontiers.{IsLeast, greatest-next, ended-next, open-more, frontier-some, frontier-none}
+use Rattle.log_merger.specs.Merge.{marks_of, least_with}
+use Rattle.log_merger.proofs.Frontiers.{IsLeast, greatest-next, ended-next, open-more}
 use Rattle.log_merger.proofs.merge.frontier.Goals.{then-not-has_ended, else-not-has_ended}
 use Rattle.log_merger.proofs.merge.frontier.Goals as goal
 
@@ -12,9 +13,18 @@ pub loop-thread-preserved : goal.loop-thread-preserved
 loop-thread-preserved c =
     let ts = c.args.threads.now in
     let i = c.loop-thread.thread-index in
-    let t = c.thread-item.result in
+    let t = get_or ts i c.thread-item.result in
     let ms = marks_of (take i ts) in
     let inv = c.loop-thread.invariant in
-    let mark : c.standing-standing.result ≡ t.mark = ? in
-    let more : marks_of (take (i + 1) ts) ≡ ms ++ t.mark ∷ [] = ? in
-    ?
+    let m = c.standing-standing.result in
+    let mark : m ≡ t.mark = c.standing-standing.ensures in
+    let more : marks_of (take (i + 1) ts) ≡ ms ++ m ∷ [] =
+    ap marks_of (take_more ts i c.thread-item.result c.loop-thread-test.true) ∙ map-append (λ (r : Receiving). r.mark) (take i ts) (t ∷ []) ∙ ap (λ (x : Mark). ms ++ x ∷ []) (sym mark) in
+    record {
+      top = c.later-greatest.ensures ∙ ap₂ max inv.top c.last.ensures ∙ sym (ap (λ (l : List Mark). greatest (scns_of l)) more ∙ greatest-next ms m);
+      low = subst (λ (l : List Mark). IsLeast c.if-not-has_ended.least (scns_of (filter is_open l))) (sym more)
+          (elim c.if-not-has_ended.branch [
+            | then-not-has_ended w ↦ ?
+            | else-not-has_ended w ↦ rw w.least-is (ended-next c.loop-thread.least ms m ? inv.low)
+          ]);
+    }

@@ -39,15 +39,21 @@ loop-place-preserved c =
 
 pub returns-clause-merges : goal.returns-clause-merges
 returns-clause-merges c h =
+    let old = c.args.threads.now in
+    let now = c.loop-place.threads in
+    let all = c.loop-place.entries.items in
     let g = c.loop-place.invariant.giving h in
+    let count : c.in_ok-count.count ≡ count_all c.args.through old = grind (arith, c.in_ok-count.ensures.ok_part, c.count_waiting.ensures) in
     elim c.loop-place-test.branch [
-      | else-loop-place-test w ↦ ?
-      | then-loop-place-test+in_default w ↦ ?
+      | else-loop-place-test w ↦ (let many : length all ≡ count_all c.args.through old = omega (arith, count, c.loop-place.invariant.len, c.loop-place.entries.ok.0, w.loop-place-test.false, c.loop-place.auto.place-end) in
+          rw w.threads-is (giving-end c.args.through c.args.first old now all g (giving-all c.args.through c.args.first old now all g h many)))
+      | then-loop-place-test+in_default w ↦ (let none = w.in_default.ensures.takes g.queues in
+          rw (w.threads-is, none.0) (giving-end c.args.through c.args.first old now all g none.1))
     ]
 
 pub returns-clause-rest : goal.returns-clause-rest
 returns-clause-rest c =
     elim c.loop-place-test.branch [
       | else-loop-place-test w ↦ rw w.threads-is c.loop-place.invariant.rest
-      | then-loop-place-test+in_default w ↦ ?
+      | then-loop-place-test+in_default w ↦ rw w.threads-is (keeps-trans c.args.threads.now c.loop-place.threads w.next_entry.new.threads c.loop-place.invariant.rest w.in_default.ensures.rest)
     ]
