@@ -3,3 +3,4 @@ pub mod Orders
 pub mod Queues
 pub mod Frontiers
 pub mod Merged
+pub mod Numbers
