@@ -4,3 +4,5 @@ pub mod Queues
 pub mod Frontiers
 pub mod Merged
 pub mod Numbers
+pub mod Readings
+pub mod Determined

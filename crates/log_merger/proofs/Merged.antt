@@ -14,7 +14,7 @@ use Rattle.adg_model.specs.Log.{thread_mark, least, greatest, is_open, scns_of, 
 use Rattle.adg_model.proofs.LogLaws.{each_weaker, thread_entries-append, numbered-append, upto-append, upto_none, upto-upto, IsWithin, thread_entries_within, thread_entries_ordered, OpenFrom, log_grows}
 use Rattle.redo_frames.specs.Assembly.{Assembly}
 use Rattle.log_merger.specs.Thread.{Receiving, raws, HasRead, ReadsOn, IsRead, IsFaultOf}
-use Rattle.log_merger.specs.Merge.{above, all_waiting, marks_of, Rises, AreQueues, KeepsRest, Merges, frontier_of}
+use Rattle.log_merger.specs.Merge.{above, all_waiting, marks_of, Rises, AreQueues, KeepsRest, TakesAll, frontier_of}
 use Rattle.log_merger.specs.Merger.{Merging, with_piece, no_texts, RecordsFrom, IsFirstBad, Part, part_records, IsThread, ThreadsFrom, shown_of, records_of, StandsFor, IsMerged, RefusesFirst}
 use Rattle.log_merger.proofs.ThreadLaws.{Front, front-of, raws-front, raws-back, all-read}
 use Rattle.log_merger.proofs.Orders.{each-filter, rises-filter, rises-ordered, above-append, above_all, above-above, upto-above, in_order-parts, length-in_order, length-numbered}
@@ -369,7 +369,7 @@ pub queues-whole : (m : Merging) (texts : ℕ → List ℕ) (given : List LogEnt
 queues-whole m texts given s = are-queues 1 (frontier (shown_of s.parts)) texts m.threads s.parts s.threads (frontier-open (shown_of s.parts))
 
 pub merged-whole : (m : Merging) (vs : List Receiving) (texts : ℕ → List ℕ) (given entries : List LogEntry) (through : ℕ) → StandsFor m texts given → AllByRecursion IsRead m.threads → through ≡ frontier_of (marks_of m.threads)
-    → AllZip KeepsRest m.threads vs → Merges through m.given m.threads vs entries → Merged m m.threads vs texts given entries
+    → AllZip KeepsRest m.threads vs → TakesAll through m.given m.threads vs entries → Merged m m.threads vs texts given entries
 merged-whole m vs texts given entries through s whole at keeps merge =
     let us = m.threads in
     let qs = s.parts in

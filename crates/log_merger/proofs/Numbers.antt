@@ -9,7 +9,7 @@ use Rattle.log_merger.specs.Thread.{Receiving, ReadsOn}
 use Rattle.log_merger.specs.Merge.{KeepsRest}
 use Rattle.log_merger.specs.Merger.{Merging, highest_number}
 
-abbrev numbers : List Receiving → List ℕ
+abbrev pub numbers : List Receiving → List ℕ
 numbers ts = map (λ t. next_number t.assembly) ts
 
 within-greatest : (ns : List ℕ) (i : ℕ) → i < length ns → get_or ns i 0 ≤ greatest ns

@@ -9,7 +9,7 @@ use Rattle.adg_base.specs.declared.log.LogEntry.{LogEntry}
 use Rattle.adg_model.specs.Log.{comes_before, in_order, numbered, upto}
 use Rattle.adg_model.proofs.LogLaws.{each-append, each_weaker, upto_none, upto-append, before_by_scn}
 use Rattle.log_merger.specs.Thread.{Receiving}
-use Rattle.log_merger.specs.Merge.{above, all_waiting, Rises, AreQueues, count_upto, count_all, first_scn, first_scns, IsFirstLeast, KeepsRest, TakesFirst, TakesNext, Merges}
+use Rattle.log_merger.specs.Merge.{above, all_waiting, Rises, AreQueues, count_upto, count_all, first_scn, first_scns, IsFirstLeast, KeepsRest, TakesFirst, TakesNext, TakesAll}
 use Rattle.log_merger.proofs.Orders.{each-filter, scn_if_before, before_by_place, in_order-first, length-in_order, tests_low, tests_high, all_above, numbered-push, length-numbered}
 
 -- all entries of a queue are at or above its first
@@ -270,7 +270,7 @@ left-waiting scn (o ∷ os) (n ∷ ns) none h =
     let later : upto scn (all_waiting ns) ≡ [] = nil_from_length (upto scn (all_waiting ns)) (omega (arith, lengths)) in
     (sym (all_above scn n.waiting here) ∙ h.0, left-waiting scn os ns later h.1)
 
-pub giving-end : (scn first : ℕ) (old now : List Receiving) (entries : List LogEntry) → Giving scn first old now entries → upto scn (all_waiting now) ≡ [] → Merges scn first old now entries
+pub giving-end : (scn first : ℕ) (old now : List Receiving) (entries : List LogEntry) → Giving scn first old now entries → upto scn (all_waiting now) ≡ [] → TakesAll scn first old now entries
 giving-end scn first old now entries g none =
     let all : in_order (upto scn (all_waiting old)) ≡ g.given = g.order ∙ ap (λ l. g.given ++ in_order l) none ∙ append-nil g.given in
     record { given = g.shown ∙ ap (numbered first) (sym all); later = left-waiting scn old now none g.later }

@@ -76,6 +76,6 @@ TakesNext scn old new (Some entry) = TakesFirst scn old new entry
 
 -- All entries that waited up to an SCN were given, in order and with positions from one on, and the
 -- others wait.
-pub record Merges (scn first : ℕ) (old new : List Receiving) (entries : List LogEntry) : Type 0 where
+pub record TakesAll (scn first : ℕ) (old new : List Receiving) (entries : List LogEntry) : Type 0 where
   pub given : entries ≡ numbered first (in_order (upto scn (all_waiting old)))
   pub later : AllZip (λ o n. n.waiting ≡ above scn o.waiting) old new

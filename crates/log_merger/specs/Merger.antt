@@ -84,9 +84,14 @@ pub record IsMerged (threads : ℕ) (texts : ℕ → List ℕ) (given : List Log
   pub received : RecordsFrom 1 texts records
   pub log : given ≡ merged_log records
 
+-- The entries go on where those given before end, and with them they are the merged log.
+pub record Merges (old new : Merging) (texts : ℕ → List ℕ) (given entries : List LogEntry) : Type 0 where
+  pub stands : StandsFor new texts (given ++ entries)
+  pub merged : IsMerged (length old.threads) texts (given ++ entries)
+
 -- what a drain leaves, where these were the texts and the entries given before
 abbrev pub Drains : Merging → Merging → (ℕ → List ℕ) → List LogEntry → Result (List LogEntry) MergeRefused → Type 0
-Drains old new texts given (Ok entries) = StandsFor new texts (given ++ entries) × IsMerged (length old.threads) texts (given ++ entries)
+Drains old new texts given (Ok entries) = Merges old new texts given entries
 Drains old new texts given (Err (Redo fault)) = StandsFor new texts given × (old.refused ≡ None → IsFirstBad (length old.threads) texts fault)
 Drains old new texts given (Err Memory) = StandsFor new texts given
 

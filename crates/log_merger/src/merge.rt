@@ -1,6 +1,6 @@
 ghost use Rattle.std.specs.Prelude.{◌≡◌, ◌+◌, ◌<◌, ◌≤◌, ◌^◌, [], ◌∷◌, IfOk, IfSome, OnErr, max, vec_len};
 ghost use Rattle.std.specs.List.{AllZip};
-ghost use Rattle.log_merger.specs.Merge.{AreQueues, IsFirstLeast, KeepsRest, Merges, TakesNext, count_all, first_scns, frontier_of, least_with, marks_of};
+ghost use Rattle.log_merger.specs.Merge.{AreQueues, IsFirstLeast, KeepsRest, TakesAll, TakesNext, count_all, first_scns, frontier_of, least_with, marks_of};
 
 use crate::thread::RedoThread;
 use adg_base::log::LogEntry;
@@ -90,7 +90,7 @@ pub fn merge(
     through: Scn,
     first: u64,
 ) -> Result<Vec<LogEntry>, Memory>
-    ensures merges { IfOk result (λ entries. AreQueues 1 threads.old → Merges through first threads.old threads.new entries.items) }
+    ensures merges { IfOk result (λ entries. AreQueues 1 threads.old → TakesAll through first threads.old threads.new entries.items) }
     ensures positions { IfOk result (λ entries. first + vec_len entries < 2 ^ 64) }
     ensures memory { OnErr result (threads.new ≡ threads.old) }
     ensures rest { AllZip KeepsRest threads.old threads.new }

@@ -5,7 +5,7 @@ ghost use Rattle.adg_base.specs.declared.vector.RedoRecord.{RedoRecord};
 ghost use Rattle.adg_model.specs.declared.fault.RedoFault.{RedoFault};
 ghost use Rattle.adg_model.specs.Log.{frontier};
 ghost use Rattle.log_merger.specs.Thread.{IsRead, ReadsOn};
-ghost use Rattle.log_merger.specs.Merger.{Drains, IsMerged, RecordsFrom, RefusesFirst, StandsFor, highest_number, no_texts, refusal_of, with_piece};
+ghost use Rattle.log_merger.specs.Merger.{Drains, IsFirstBad, Merges, RecordsFrom, RefusesFirst, StandsFor, highest_number, no_texts, refusal_of, with_piece};
 
 use crate::merge::{frontier, merge};
 use crate::refused::MergeRefused;
@@ -57,8 +57,8 @@ impl Merger {
         ensures number { IfOk result (λ merger. highest_number merger ≤ 1) }
     {
         let mut list = Vec::with_capacity(alloc, threads as usize)?;
-        for number in 1..=threads {
-            list.push(RedoThread::new(alloc, number))?;
+        for index in 0..threads {
+            list.push(RedoThread::new(alloc, index + 1))?;
         }
         Ok(Merger {
             alloc,
@@ -91,6 +91,42 @@ impl Merger {
         frontier(&self.threads)
     }
 
+    /// Reads the records of all threads, and remembers the refusal of one.
+    fn read(&mut self) -> Result<(), MergeRefused>
+        requires { self.old.refused ≡ None }
+        ensures stands { (texts : ℕ → ListOf ℕ) (given : ListOf LogEntry) → StandsFor self.old texts given → StandsFor self.new texts given }
+        ensures all { OnOk result (AllByRecursion IsRead self.new.threads) }
+        ensures bad { (fault : RedoFault) → result ≡ Err (MergeRefused.Redo fault) → (texts : ℕ → ListOf ℕ) (given : ListOf LogEntry) → StandsFor self.old texts given →
+            IsFirstBad (length self.old.threads) texts fault }
+        ensures refused { self.new.refused ≡ refusal_of result }
+        ensures threads { length self.new.threads ≡ length self.old.threads }
+        ensures number { highest_number self.new ≡ highest_number self.old }
+    {
+        match read_all(&mut self.threads) {
+            Ok(()) => Ok(()),
+            Err(MergeRefused::Redo(fault)) => {
+                self.refused = Some(fault);
+                Err(MergeRefused::Redo(fault))
+            }
+            Err(MergeRefused::Memory) => Err(MergeRefused::Memory),
+        }
+    }
+
+    /// Merges what waits up to the frontier, where all records are read.
+    fn merge(&mut self) -> Result<EntryList, Memory>
+        requires { AllByRecursion IsRead self.old.threads }
+        ensures merged { IfOk result (λ entries. (texts : ℕ → ListOf ℕ) (given : ListOf LogEntry) → StandsFor self.old texts given → Merges self.old self.new texts given entries) }
+        ensures memory { OnErr result (self.new ≡ self.old) }
+        ensures refused { self.new.refused ≡ self.old.refused }
+        ensures threads { length self.new.threads ≡ length self.old.threads }
+        ensures number { highest_number self.new ≡ highest_number self.old }
+    {
+        let through = frontier(&self.threads);
+        let entries = merge(self.alloc, &mut self.threads, through, self.given)?;
+        self.given += entries.len() as u64;
+        Ok(List::from_vec(entries))
+    }
+
     /// Gives the entries of the merged log up to the frontier that were not given before. A bad record
     /// of a thread is refused, also where it lies above the frontier, and every later drain refuses it
     /// again.
@@ -104,15 +140,7 @@ impl Merger {
         if let Some(fault) = self.refused {
             return Err(MergeRefused::Redo(fault));
         }
-        if let Err(refused) = read_all(&mut self.threads) {
-            if let MergeRefused::Redo(fault) = refused {
-                self.refused = Some(fault);
-            }
-            return Err(refused);
-        }
-        let through = frontier(&self.threads);
-        let entries = merge(self.alloc, &mut self.threads, through, self.given)?;
-        self.given += entries.len() as u64;
-        Ok(List::from_vec(entries))
+        self.read()?;
+        Ok(self.merge()?)
     }
 }

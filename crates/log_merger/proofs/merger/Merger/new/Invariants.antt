@@ -4,9 +4,9 @@ use Rattle.redo_frames.specs.Assembly.{next_number}
 use Rattle.log_merger.proofs.Merged.{FreshFrom}
 use Rattle.log_merger.proofs.merger.Merger.new.Given as goal
 
-abbrev pub invariant-loop-number : goal.invariant-loop-number
-invariant-loop-number l = record {
-  many : l.number ≡ length l.list.items + 1;
+abbrev pub invariant-loop-index : goal.invariant-loop-index
+invariant-loop-index l = record {
+  many : l.index ≡ length l.list.items;
   fresh : FreshFrom 1 l.list.items;
   numbers : greatest (map (λ t. next_number t.assembly) l.list.items) ≤ 1;
 }
