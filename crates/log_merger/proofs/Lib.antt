@@ -6,3 +6,5 @@ pub mod Merged
 pub mod Numbers
 pub mod Readings
 pub mod Determined
+pub mod OneOrder
+pub mod Deliveries

@@ -59,7 +59,7 @@ stands-new ts refused h = record {
 
 -- ---- a thread changes
 
-threads-same : (n low : ℕ) (texts other : ℕ → List ℕ) (ts : List Receiving) (ps : List Part) → ((k : ℕ) → n ≤ k → texts k ≡ other k) → ThreadsFrom n low texts ts ps → ThreadsFrom n low other ts ps
+pub threads-same : (n low : ℕ) (texts other : ℕ → List ℕ) (ts : List Receiving) (ps : List Part) → ((k : ℕ) → n ≤ k → texts k ≡ other k) → ThreadsFrom n low texts ts ps → ThreadsFrom n low other ts ps
 threads-same n low texts other [] [] same h = tt
 threads-same n low texts other [] (p ∷ ps) same h = absurd h
 threads-same n low texts other (t ∷ ts) [] same h = absurd h

@@ -37,6 +37,9 @@ scn_if_before a b h = grind (arith, nat_tests)
 pub not_after : (a b : LogEntry) → comes_before a b ≡ true → comes_before b a ≡ false
 not_after a b h = grind (arith, nat_tests)
 
+pub not_itself : (a : LogEntry) → comes_before a a ≡ false
+not_itself a = grind (arith, nat_tests)
+
 pub not_before_lower : (a b : LogEntry) → b.scn < a.scn → comes_before a b ≡ false
 not_before_lower a b h = grind (arith, nat_tests)
 

@@ -1,10 +1,12 @@
 -- What a merger stands for.
 use Rattle.std.specs.Prelude.{◌≡◌, ℕ, ◌+◌, ◌<◌, ◌==◌, if◌then◌else◌, List, [], ◌∷◌, ◌++◌, length, map, Option, Some, None, Result, Ok, Err, ◌⊎◌}
-use Rattle.std.specs.List.{AllByRecursion, AllZip}
+use Rattle.std.specs.List.{flat_map}
 use Rattle.adg_base.specs.declared.vector.RedoRecord.{RedoRecord}
 use Rattle.adg_base.specs.declared.log.LogEntry.{LogEntry}
 use Rattle.adg_model.specs.declared.fault.RedoFault.{RedoFault}
-use Rattle.adg_model.specs.Records.{HasRecords, HasBadRecord}
+use Rattle.adg_model.specs.declared.delivery.RedoPiece.{RedoPiece}
+use Rattle.adg_model.specs.declared.delivery.RawDelivery.{RawDelivery}
+use Rattle.adg_model.specs.Records.{HasRecords, HasBadRecord, bytes_for, thread_text}
 use Rattle.adg_model.specs.Log.{thread_entries, frontier, merged_log, greatest}
 use Rattle.redo_frames.specs.Assembly.{next_number}
 use Rattle.log_merger.specs.declared.refused.MergeRefused.{MergeRefused}
@@ -24,6 +26,13 @@ no_texts thread = []
 
 abbrev pub with_piece : ℕ → List ℕ → (ℕ → List ℕ) → ℕ → List ℕ
 with_piece thread piece texts t = if t == thread then texts t ++ piece else texts t
+
+-- the texts of some deliveries, and with some pieces of one more
+abbrev pub texts_of : List RawDelivery → ℕ → List ℕ
+texts_of deliveries thread = thread_text thread deliveries
+
+abbrev pub texts_with : List RawDelivery → List RedoPiece → ℕ → List ℕ
+texts_with deliveries pieces thread = thread_text thread deliveries ++ flat_map (bytes_for thread) pieces
 
 -- these are the records of the texts of the threads from one on
 abbrev pub RecordsFrom : ℕ → (ℕ → List ℕ) → List (List RedoRecord) → Type 0

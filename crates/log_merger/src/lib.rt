@@ -2,6 +2,7 @@
 //! vectors in the order of SCN, thread and place.
 #![tactic(auto)]
 
+pub mod law;
 mod merge;
 mod merger;
 mod refused;
