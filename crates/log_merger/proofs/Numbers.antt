@@ -1,13 +1,18 @@
 -- The greatest number that the next record of a thread has.
-use Rattle.std.proofs.Common.{◌≡◌, ℕ, ◌+◌, ◌<◌, ◌≤◌, List, [], ◌∷◌, ◌++◌, length, get_or, map, max, zero, suc, refl, sym, ap, ap₂, ◌∙◌, subst, arith}
+use Rattle.std.proofs.Common.{◌≡◌, ℕ, ◌+◌, ◌<◌, ◌≤◌, List, [], ◌∷◌, ◌++◌, length, get_or, map, max, zero, suc, refl, sym, ap, ap₂, ◌∙◌, subst, arith, length-append}
 use Rattle.std.proofs.Math.ListN.{set}
 use Rattle.std.specs.List.{AllZip}
 use Rattle.std.proofs.lemmas.List.{get_or-map, length-map, map-set}
-use Rattle.adg_model.specs.Log.{greatest}
+use Rattle.std.specs.List.{flat_map}
+use Rattle.adg_base.specs.declared.vector.RedoRecord.{RedoRecord}
+use Rattle.adg_base.specs.declared.log.LogEntry.{LogEntry}
+use Rattle.adg_model.specs.Records.{Raw, raw_bytes, raw_of, first_mark}
+use Rattle.adg_model.specs.Log.{greatest, frontier}
 use Rattle.redo_frames.specs.Assembly.{Assembly, next_number}
-use Rattle.log_merger.specs.Thread.{Receiving, ReadsOn}
+use Rattle.log_merger.specs.Thread.{Receiving, raws, HasRead, ReadsOn}
 use Rattle.log_merger.specs.Merge.{KeepsRest}
-use Rattle.log_merger.specs.Merger.{Merging, highest_number}
+use Rattle.log_merger.specs.Merger.{Merging, Part, shown_of, ThreadsFrom, StandsFor, highest_number}
+use Rattle.log_merger.proofs.ThreadLaws.{front-of, bytes-many}
 
 abbrev pub numbers : List Receiving → List ℕ
 numbers ts = map (λ t. next_number t.assembly) ts
@@ -51,3 +56,22 @@ numbers-kept [] [] h = refl
 numbers-kept [] (u ∷ us) h = absurd h
 numbers-kept (t ∷ ts) [] h = absurd h
 numbers-kept (t ∷ ts) (u ∷ us) h = ap₂ (λ (n : ℕ) (ns : List ℕ). n ∷ ns) (ap (λ (r : Receiving). next_number r.assembly) h.0) (numbers-kept ts us h.1)
+
+-- a record has more than one byte, so no number is above that of the bytes
+thread-below : (t : Receiving) (text : List ℕ) (records : List RedoRecord) → HasRead t text records → next_number t.assembly ≤ length text + 1
+thread-below t text records h =
+    let taken = map raw_of records ++ raws t.unread in
+    let front = front-of t.assembly.refused first_mark text (taken ++ t.assembly.held) t.assembly.rest h.holds.stands in
+    let many = bytes-many first_mark (taken ++ t.assembly.held) front.follow in
+    let bytes = ap (λ (l : List ℕ). length l) front.spelled in
+    let none = ap (λ (l : List Raw). length l) h.none_held in
+    omega (arith, many, bytes, none, h.holds.count, length-append taken t.assembly.held, length-append (flat_map raw_bytes (taken ++ t.assembly.held)) front.tail)
+
+threads-below : (n low most : ℕ) (texts : ℕ → List ℕ) (ts : List Receiving) (ps : List Part) → ((thread : ℕ) → length (texts thread) ≤ most) → ThreadsFrom n low texts ts ps → greatest (numbers ts) ≤ most + 1
+threads-below n low most texts [] ps le h = omega arith
+threads-below n low most texts (t ∷ ts) [] le h = absurd h
+threads-below n low most texts (t ∷ ts) (p ∷ ps) le h = let ih = threads-below (n + 1) low most texts ts ps le h.1 in omega (arith, ih, thread-below t (texts n) (p.shown ++ p.more) h.0.read, le n)
+
+-- the number of a next record is at most one more than the bytes of the longest text
+pub number-below : (m : Merging) (texts : ℕ → List ℕ) (given : List LogEntry) (most : ℕ) → StandsFor m texts given → ((thread : ℕ) → length (texts thread) ≤ most) → highest_number m ≤ most + 1
+number-below m texts given most s le = threads-below 1 (frontier (shown_of s.parts)) most texts m.threads s.parts le s.threads

@@ -82,7 +82,7 @@ taking-end a b from now before after t none =
 
 -- ---- room for the records of a piece
 
-bytes-many : (m : Mark) (rs : List Raw) → AreRaws m rs → 13 * length rs ≤ length (flat_map raw_bytes rs)
+pub bytes-many : (m : Mark) (rs : List Raw) → AreRaws m rs → 13 * length rs ≤ length (flat_map raw_bytes rs)
 bytes-many m [] h = omega arith
 bytes-many m (r ∷ rs) h =
     omega (arith, bytes-many (mark_of r) rs h.3, length-raw_bytes r, length-append (raw_bytes r) (flat_map raw_bytes rs))

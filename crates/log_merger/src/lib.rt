@@ -6,6 +6,8 @@ pub mod law;
 mod merge;
 mod merger;
 mod refused;
+#[cfg(test)]
+mod tests;
 mod thread;
 
 pub use merger::Merger;
