@@ -115,51 +115,137 @@ fn assert_merges(
     Ok(())
 }
 
-/// The steps of a case, for how many threads, and its log.
-struct Case {
-    threads: u8,
-    steps: &'static [Step],
-    log: &'static [Wanted],
+#[test]
+fn merges(rt: HostRuntime) -> Result<(), Fail> {
+    // equal SCNs: thread 2 comes second, also where its redo came first
+    let in_order = [
+        Step::Redo(1, 20, 2, 2),
+        Step::Redo(2, 20, 4, 2),
+        Step::Drain(20, 4),
+    ];
+    let turned = [
+        Step::Redo(2, 20, 4, 2),
+        Step::Redo(1, 20, 2, 2),
+        Step::Drain(20, 4),
+    ];
+    let equal = [
+        (20, 1, 1, 1, 2),
+        (20, 1, 1, 2, 3),
+        (20, 2, 1, 1, 4),
+        (20, 2, 1, 2, 5),
+    ];
+    // a silent thread holds the frontier back, and a record without vectors moves it alone
+    let silent = [
+        Step::Redo(1, 10, 1, 1),
+        Step::Drain(0, 0),
+        Step::Redo(2, 15, 0, 0),
+        Step::Drain(10, 1),
+        Step::Redo(1, 12, 0, 0),
+        Step::Drain(12, 0),
+        Step::Redo(1, 16, 2, 1),
+        Step::Drain(15, 0),
+    ];
+    let first = [(10, 1, 1, 1, 1)];
+    // an ended thread does not hold it back; where all have ended it is the greatest last SCN
+    let ended = [
+        Step::Redo(1, 10, 1, 1),
+        Step::End(1, 11),
+        Step::Redo(2, 14, 2, 1),
+        Step::Redo(3, 13, 3, 1),
+        Step::Drain(13, 3),
+        Step::End(3, 30),
+        Step::Drain(14, 1),
+        Step::End(2, 20),
+        Step::Drain(30, 2),
+    ];
+    let to_the_end = [
+        (10, 1, 1, 1, 1),
+        (11, 1, 2, 1, 0),
+        (13, 3, 1, 1, 3),
+        (14, 2, 1, 1, 2),
+        (20, 2, 2, 1, 0),
+        (30, 3, 2, 1, 0),
+    ];
+    // three threads in equal and interleaved SCNs, over five drains
+    let three = [
+        Step::Redo(3, 5, 9, 1),
+        Step::Redo(1, 5, 1, 2),
+        Step::Redo(2, 7, 3, 1),
+        Step::Drain(5, 3),
+        Step::Redo(1, 8, 4, 1),
+        Step::Redo(3, 6, 8, 1),
+        Step::Redo(3, 7, 7, 1),
+        Step::Drain(7, 3),
+        Step::Drain(7, 0),
+        Step::Redo(2, 8, 5, 1),
+        Step::Redo(2, 11, 6, 1),
+        Step::Redo(3, 9, 0, 0),
+        Step::Drain(8, 2),
+        Step::Redo(1, 12, 0, 0),
+        Step::End(3, 12),
+        Step::Drain(11, 1),
+    ];
+    let interleaved = [
+        (5, 1, 1, 1, 1),
+        (5, 1, 1, 2, 2),
+        (5, 3, 1, 1, 9),
+        (6, 3, 2, 1, 8),
+        (7, 2, 1, 1, 3),
+        (7, 3, 3, 1, 7),
+        (8, 1, 2, 1, 4),
+        (8, 2, 2, 1, 5),
+        (11, 2, 3, 1, 6),
+    ];
+    for one_by_one in [false, true] {
+        assert_merges(&rt, rt.alloc(), 2, &in_order, &equal, one_by_one)?;
+        assert_merges(&rt, rt.alloc(), 2, &turned, &equal, one_by_one)?;
+        assert_merges(&rt, rt.alloc(), 2, &silent, &first, one_by_one)?;
+        assert_merges(&rt, rt.alloc(), 3, &ended, &to_the_end, one_by_one)?;
+        assert_merges(&rt, rt.alloc(), 3, &three, &interleaved, one_by_one)?;
+    }
+    Ok(())
 }
 
-const EQUAL: &[Wanted] = &[
-    (20, 1, 1, 1, 2),
-    (20, 1, 1, 2, 3),
-    (20, 2, 1, 1, 4),
-    (20, 2, 1, 2, 5),
-];
-
-const CASES: [Case; 5] = [];
-/// A record of SCN 5 without vectors, one of SCN 9 whose vector cannot be read, the end of a thread,
-/// and a length below that of a record.
+/// A record of SCN 5 without vectors. Behind it: one of SCN 9 whose vector cannot be read and a length
+/// below that of a record; and the end of the thread at SCN 9 and one byte. The length alone.
 const GOOD: &[u8] = b"\0\x0d\0\0\0\0\0\0\0\x05\0\0\x0d";
-const BAD_VECTOR: &[u8] = b"\0\x0e\0\0\0\0\0\0\0\x09\x01\x0c\0\x0e";
-const END: &[u8] = b"\0\x0e\0\0\0\0\0\0\0\x09\x01\x0b\0\x0e";
+const BAD_VECTOR: &[u8] = b"\0\x0d\0\0\0\0\0\0\0\x05\0\0\x0d\
+\0\x0e\0\0\0\0\0\0\0\x09\x01\x0c\0\x0e\0\x0c";
+const AFTER_END: &[u8] = b"\0\x0d\0\0\0\0\0\0\0\x05\0\0\x0d\
+\0\x0e\0\0\0\0\0\0\0\x09\x01\x0b\0\x0e\0";
 const SHORT: &[u8] = b"\0\x0c";
+
+/// Refuses what threads 1 and 2 of three bring: twice with this fault, and some redo between.
+fn assert_refuses(
+    rt: &impl Abort,
+    alloc: Global,
+    redo: (&[u8], &[u8]),
+    fault: RedoFault,
+) -> Result<(), Fail> {
+    let (first, second) = redo;
+    let mut merger = Merger::new(alloc, 3)?;
+    accept(&mut merger, 3, 2, second, false)?;
+    accept(&mut merger, 3, 1, first, false)?;
+    assert_eq!(rt; merger.drain().err(), Some(MergeRefused::Redo(fault)));
+    accept(&mut merger, 3, 3, GOOD, false)?;
+    assert_eq!(rt; merger.drain().err(), Some(MergeRefused::Redo(fault)));
+    Ok(())
+}
 
 #[test]
 fn refuses(rt: HostRuntime) -> Result<(), Fail> {
-    // a bad vector above the frontier comes before the bad frame of a later record, and the lower of
-    // two threads before the other
-    let two: [(u8, &[u8]); 4] = [(2, SHORT), (1, GOOD), (1, BAD_VECTOR), (1, SHORT)];
-    let after_end: [(u8, &[u8]); 4] = [(1, GOOD), (2, GOOD), (2, END), (2, b"\0")];
-    for (pieces, thread, kind) in [
-        (two, 1, RedoKind::BadVector { index: 1 }),
-        (after_end, 2, RedoKind::Frame(FrameKind::AfterEnd)),
-    ] {
-        let mut merger = Merger::new(rt.alloc(), 3)?;
-        for (thread, bytes) in pieces {
-            accept(&mut merger, 3, thread, bytes, false)?;
-        }
-        let number = if thread == 1 { 2 } else { 3 };
-        let fault = RedoFault {
-            thread,
-            number,
-            kind,
-        };
-        assert_eq!(rt; merger.drain().err(), Some(MergeRefused::Redo(fault)));
-        accept(&mut merger, 3, 3, GOOD, false)?;
-        assert_eq!(rt; merger.drain().err(), Some(MergeRefused::Redo(fault)));
-    }
-    Ok(())
+    // of two threads the lower; and the bad vector of a record above the frontier before the bad frame
+    // of a later one
+    let bad_vector = RedoFault {
+        thread: 1,
+        number: 2,
+        kind: RedoKind::BadVector { index: 1 },
+    };
+    assert_refuses(&rt, rt.alloc(), (BAD_VECTOR, SHORT), bad_vector)?;
+    let after_end = RedoFault {
+        thread: 2,
+        number: 3,
+        kind: RedoKind::Frame(FrameKind::AfterEnd),
+    };
+    assert_refuses(&rt, rt.alloc(), (GOOD, AFTER_END), after_end)
 }
