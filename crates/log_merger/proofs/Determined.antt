@@ -10,7 +10,7 @@ use Rattle.adg_model.specs.Records.{Raw, raw_len, raw_bytes, IsRaw, IsPart, Mark
 use Rattle.adg_model.specs.Log.{thread_mark, frontier}
 use Rattle.adg_model.proofs.RecordsFault.{trailer_at, fault_whole}
 use Rattle.adg_model.proofs.RecordsSpelled.{length-raw_bytes, reads_as, raw_bytes-apart, raw-no_part}
-use Rattle.redo_frames.specs.Front.{Stops}
+use Rattle.redo_frames.specs.NextRecord.{Stops}
 use Rattle.redo_frames.specs.Reading.{Stands}
 use Rattle.log_merger.specs.Thread.{Receiving, raws, HasRead}
 use Rattle.log_merger.specs.Merge.{marks_of, frontier_of}

@@ -3,6 +3,7 @@
 #![tactic(auto)]
 
 pub mod law;
+mod mark;
 mod merge;
 mod merger;
 mod refused;

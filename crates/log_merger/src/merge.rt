@@ -32,10 +32,10 @@ pub fn frontier(threads: &[RedoThread]) -> Scn
     let mut least = None;
     let mut greatest = Scn::ZERO;
     for thread in threads {
-        let standing = thread.standing();
-        greatest = later(greatest, standing.last());
-        if !standing.has_ended() {
-            least = Some(least_with(least, standing.last()));
+        let mark = thread.mark();
+        greatest = later(greatest, mark.scn());
+        if !mark.has_ended() {
+            least = Some(least_with(least, mark.scn()));
         }
     }
     match least {

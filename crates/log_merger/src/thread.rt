@@ -2,18 +2,20 @@ ghost use Rattle.std.specs.Prelude.{◌≡◌, ℕ, ◌+◌, ◌<◌, ◌≤◌,
 ghost use Rattle.std.specs.VecDeque.{deque_len, deque_capacity};
 ghost use Rattle.adg_base.specs.declared.vector.RedoRecord.{RedoRecord};
 ghost use Rattle.adg_model.specs.declared.fault.RedoFault.{RedoFault};
-ghost use Rattle.adg_model.specs.Records.{Raw, Mark, mark_of, first_mark};
+ghost use Rattle.adg_model.specs.Records.{Raw};
 ghost use Rattle.adg_model.specs.Log.{record_entries};
 ghost use Rattle.redo_frames.specs.Assembly.{Holds, next_number, raw_of_record};
 ghost use Rattle.log_merger.specs.Thread.{HasRead, Takes, ReadsNext, ReadsOn, IsRead, IsFaultOf};
 ghost use Rattle.log_merger.specs.Merge.{KeepsRest, count_upto, first_scn};
 
+use crate::mark::Mark;
 use crate::refused::MergeRefused;
 use adg_base::log::LogEntry;
 use adg_base::memory::Memory;
 use adg_base::number::{Pos, Scn};
 use adg_base::vector::VectorList;
 use adg_model::fault::{RedoFault, RedoKind};
+use adg_model::record::RECORD_OVERHEAD;
 use change_vectors::read::read_vectors;
 use change_vectors::refused::VectorsRefused;
 use redo_frames::{Assembler, FrameRefused, RawRecord};
@@ -21,70 +23,13 @@ use std::alloc::Global;
 use std::collections::VecDeque;
 use std::marker::Model;
 
-/// The bytes of the shortest record.
-const SHORTEST: usize = 13;
-
-/// Where a thread stands: the SCN of its last whole record, 0 before the first, and whether it has
-/// ended.
-#[derive(Clone, Copy, Debug)]
-pub struct Standing {
-    last: Scn,
-    ended: bool,
-}
-
-impl Model for Standing {
-    ghost use Rattle.adg_model.specs.Records.{Mark};
-
-    ghost Value = { Mark };
-
-    ghost view = { λ s. record { scn = s.last; ended = s.ended } };
-
-    ghost inverse = { λ m. record { last = m.scn; ended = m.ended } };
-}
-
-impl Standing {
-    /// Before the first record.
-    fn at_start() -> Standing
-        ensures { result ≡ first_mark }
-    {
-        Standing {
-            last: Scn::ZERO,
-            ended: false,
-        }
-    }
-
-    /// After this record. It ends its thread where its one vector says so.
-    fn after(raw: &RawRecord) -> Standing
-        ensures { result ≡ mark_of (raw_of_record raw.now) }
-    {
-        Standing {
-            last: raw.scn,
-            ended: raw.count == 1 && matches!(raw.body.as_slice(), [0x0b, ..]),
-        }
-    }
-
-    /// The SCN of the last record.
-    pub fn last(self) -> Scn
-        ensures { result ≡ self.scn }
-    {
-        self.last
-    }
-
-    /// Whether the thread has ended.
-    pub fn has_ended(self) -> bool
-        ensures { result ≡ self.ended }
-    {
-        self.ended
-    }
-}
-
 /// The redo of one thread that was received and not given yet.
 #[derive(Debug, Drop)]
 pub struct RedoThread {
     alloc: Global,
     number: u8,
     assembler: Assembler,
-    standing: Standing,
+    mark: Mark,
     unread: VecDeque<RawRecord>,
     waiting: VecDeque<LogEntry>,
 }
@@ -96,7 +41,7 @@ impl Model for RedoThread {
 
     ghost Value = { Receiving };
 
-    ghost view = { λ t. record { number = t.number; assembly = t.assembler; mark = t.standing; unread = t.unread.items; waiting = t.waiting.items } };
+    ghost view = { λ t. record { number = t.number; assembly = t.assembler; mark = t.mark; unread = t.unread.items; waiting = t.waiting.items } };
 
     ghost invariant = { λ t. next_number t.assembler < 2 ^ 64 };
 }
@@ -118,15 +63,15 @@ fn feed(assembler: &mut Assembler, piece: &[u8]) -> Result<(), Memory>
 /// Takes the records that an assembler holds.
 fn take_all(
     assembler: &mut Assembler,
-    standing: &mut Standing,
+    mark: &mut Mark,
     unread: &mut VecDeque<RawRecord>,
 ) -> Result<(), Memory>
-    ensures takes { OnOk result (Takes assembler.old assembler.new standing.old standing.new unread.old.items unread.new.items) }
+    ensures takes { OnOk result (Takes assembler.old assembler.new mark.old mark.new unread.old.items unread.new.items) }
     ensures full { OnErr result (deque_capacity unread.old < deque_len unread.old + length assembler.old.held) }
     ensures number { next_number assembler.new ≡ next_number assembler.old }
 {
     while let Some(record) = assembler.take() {
-        *standing = Standing::after(&record);
+        *mark = Mark::after(&record);
         unread.push_back(record)?;
     }
     Ok(())
@@ -172,7 +117,7 @@ impl RedoThread {
             alloc,
             number,
             assembler: Assembler::new(alloc),
-            standing: Standing::at_start(),
+            mark: Mark::at_start(),
             unread: VecDeque::new(alloc),
             waiting: VecDeque::new(alloc),
         }
@@ -188,11 +133,11 @@ impl RedoThread {
         ensures waiting { self.new.waiting ≡ self.old.waiting }
         ensures next { next_number self.new.assembly ≤ next_number self.old.assembly + length piece.now }
     {
-        self.unread.try_reserve(piece.len() / SHORTEST + 1)?;
+        self.unread.try_reserve(piece.len() / RECORD_OVERHEAD + 1)?;
         feed(&mut self.assembler, piece)?;
         take_all(
             &mut self.assembler,
-            &mut self.standing,
+            &mut self.mark,
             &mut self.unread,
         )
     }
@@ -248,10 +193,10 @@ impl RedoThread {
     }
 
     /// Where it stands after the whole records.
-    pub fn standing(&self) -> Standing
+    pub fn mark(&self) -> Mark
         ensures { result ≡ self.now.mark }
     {
-        self.standing
+        self.mark
     }
 
     /// How many entries wait up to an SCN.

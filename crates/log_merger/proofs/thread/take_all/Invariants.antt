@@ -6,7 +6,7 @@ use Rattle.log_merger.proofs.thread.take_all.Given as goal
 
 abbrev pub invariant-loop-record : goal.invariant-loop-record
 invariant-loop-record l = record {
-  taking : Taking l.fn.assembler l.assembler l.fn.standing l.standing l.fn.unread.items l.unread.items;
+  taking : Taking l.fn.assembler l.assembler l.fn.mark l.mark l.fn.unread.items l.unread.items;
   capacity : deque_capacity l.fn.unread ≤ deque_capacity l.unread;
   number : next_number l.assembler ≡ next_number l.fn.assembler;
 }

@@ -35,7 +35,7 @@ returns-in_ok-push_entries-in-Ok c =
     let found = c.in-Ok.ensures.found in
     let some : 0 < length xs = omega (arith, c.in-Some.ensures.variant.0 refl, c.self.inside.unread.ok.0) in
     let first : xs ≡ r ∷ drop 1 xs = first-is xs r some c.in-Some.ensures.lookup in
-    let new : Receiving = record { number = c.self.inside.number; assembly = c.self.inside.assembler; mark = c.self.inside.standing; unread = c.pop_front.new.self.items; waiting = c.push_entries.new.waiting.items } in
+    let new : Receiving = record { number = c.self.inside.number; assembly = c.self.inside.assembler; mark = c.self.inside.mark; unread = c.pop_front.new.self.items; waiting = c.push_entries.new.waiting.items } in
     subst (λ (t : Receiving). ReadsOne t new) c.self.view_is
     (record {
       raw = r;
