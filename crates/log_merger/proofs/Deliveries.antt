@@ -1,5 +1,5 @@
 -- What a merger of the redo of deliveries stands for, in the words of deliveries.
-use Rattle.std.proofs.Common.{◌≡◌, ℕ, ◌+◌, Bool, true, false, cond, eqb, List, [], ◌∷◌, ◌++◌, length, refl, sym, ap, ◌∙◌, subst, append_assoc, append-nil}
+use Rattle.std.proofs.Common.{◌≡◌, ℕ, ◌+◌, Bool, true, false, cond, eqb, List, [], ◌∷◌, ◌++◌, refl, sym, ap, ◌∙◌, append_assoc, append-nil}
 use Rattle.std.specs.List.{flat_map}
 use Rattle.std.proofs.lemmas.Bool.{eqb-true, eqb-false, eq-eqb, ne_eqb}
 use Rattle.std.proofs.lemmas.Grind.{flat_map-append}
@@ -11,8 +11,7 @@ use Rattle.adg_model.specs.declared.fault.RedoFault.{RedoFault}
 use Rattle.adg_model.specs.Records.{bytes_for, thread_text}
 use Rattle.adg_model.specs.Log.{frontier, ReceivedFrom}
 use Rattle.adg_model.specs.Sound.{IsFirstBadRecord}
-use Rattle.log_merger.specs.Thread.{Receiving}
-use Rattle.log_merger.specs.Merger.{Merging, with_piece, RecordsFrom, IsFirstBad, Part, shown_of, ThreadsFrom, StandsFor, texts_of, texts_with}
+use Rattle.log_merger.specs.Merger.{Merging, with_piece, RecordsFrom, IsFirstBad, shown_of, StandsFor, texts_of, texts_with}
 use Rattle.log_merger.proofs.Merged.{threads-same}
 
 -- the records of the texts are those that the deliveries give
@@ -54,8 +53,10 @@ texts-piece deliveries pieces piece thread = by_test (eqb thread piece.thread) r
   where
     front : List ℕ
     front = texts_with deliveries pieces thread
+
     more : texts_with deliveries (pieces ++ piece ∷ []) thread ≡ front ++ bytes_for thread piece
     more = ap (λ (t : List ℕ). thread_text thread deliveries ++ t) (flat_map-append (bytes_for thread) pieces (piece ∷ []) ∙ ap (λ (t : List ℕ). flat_map (bytes_for thread) pieces ++ t) (append-nil (bytes_for thread piece))) ∙ sym (append_assoc (thread_text thread deliveries) (flat_map (bytes_for thread) pieces) (bytes_for thread piece))
+
     by_test : (b : Bool) → eqb thread piece.thread ≡ b → with_piece piece.thread piece.bytes (texts_with deliveries pieces) thread ≡ texts_with deliveries (pieces ++ piece ∷ []) thread
     by_test true e =
         let same = eqb-true thread piece.thread e in

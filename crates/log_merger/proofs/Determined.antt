@@ -1,15 +1,15 @@
 -- The whole records of a text are the only ones, also those that are not read yet.
-use Rattle.std.proofs.Common.{◌≡◌, ℕ, ◌+◌, ◌-◌, ◌<◌, ◌≤◌, ◌^◌, false, List, [], ◌∷◌, ◌++◌, length, take, drop, map, suc, Option, Some, None, refl, sym, ap, ap₂, ◌∙◌, subst, arith, append_assoc, append-nil, length-append}
+use Rattle.std.proofs.Common.{◌≡◌, ℕ, ◌+◌, ◌-◌, ◌<◌, ◌≤◌, ◌^◌, List, [], ◌∷◌, ◌++◌, length, take, drop, map, Option, Some, None, refl, sym, ap, ap₂, ◌∙◌, subst, arith, append_assoc, length-append}
 use Rattle.std.specs.Int.{w16, w64, to_be_bytes, from_be_bytes}
 use Rattle.std.specs.List.{flat_map}
 use Rattle.std.proofs.lemmas.List.{drop_at}
 use Rattle.std.proofs.lemmas.Nat.{from_be_bytes-to_be_bytes_2}
 use Rattle.adg_base.specs.declared.vector.RedoRecord.{RedoRecord}
 use Rattle.adg_model.specs.declared.fault.FrameKind.{FrameKind}
-use Rattle.adg_model.specs.Records.{Raw, raw_len, raw_bytes, IsRaw, IsPart, Mark, first_mark, mark_of, mark_after, raw_of, AreRaws, stated_len, stated_scn, whole_fault, record_fault, HasRecords}
+use Rattle.adg_model.specs.Records.{Raw, raw_len, raw_bytes, IsPart, Mark, first_mark, mark_of, mark_after, raw_of, AreRaws, stated_scn, whole_fault, record_fault, HasRecords}
 use Rattle.adg_model.specs.Log.{thread_mark, frontier}
 use Rattle.adg_model.proofs.RecordsFault.{trailer_at, fault_whole}
-use Rattle.adg_model.proofs.RecordsSpelled.{length-raw_bytes, reads_as, raw_bytes-apart, raw-no_part}
+use Rattle.adg_model.proofs.RecordsSpelled.{reads_as, raw_bytes-apart, raw-no_part}
 use Rattle.redo_frames.specs.NextRecord.{Stops}
 use Rattle.redo_frames.specs.Reading.{Stands}
 use Rattle.log_merger.specs.Thread.{Receiving, raws, HasRead}

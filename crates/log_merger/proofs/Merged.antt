@@ -1,23 +1,21 @@
 -- What a merger stands for, and what each call does to it.
-use Rattle.std.proofs.Common.{◌≡◌, ℕ, ◌+◌, ◌<◌, ◌≤◌, Bool, true, false, cond, not, nat_lt, eqb, true≢false, List, [], ◌∷◌, ◌++◌, length, get_or, map, filter, zero, suc, min, max, Option, Some, None, ◌⊎◌, inl, inr, refl, sym, ap, ap₂, ◌∙◌, subst, arith, append_assoc, append-nil, length-append}
+use Rattle.std.proofs.Common.{◌≡◌, ℕ, ◌+◌, ◌<◌, ◌≤◌, Bool, true, false, cond, not, nat_lt, true≢false, List, [], ◌∷◌, ◌++◌, length, get_or, map, filter, zero, suc, Option, inl, inr, refl, sym, ap, ap₂, ◌∙◌, subst, arith, append_assoc, append-nil, length-append}
 use Rattle.std.proofs.Math.ListN.{set}
-use Rattle.std.specs.List.{AllByRecursion, AllZip, flat_map}
+use Rattle.std.specs.List.{AllByRecursion, AllZip}
 use Rattle.std.proofs.lemmas.Bool.{eq-eqb, ne_eqb}
-use Rattle.std.proofs.lemmas.List.{length-map, map-append}
+use Rattle.std.proofs.lemmas.List.{map-append}
 use Rattle.adg_base.specs.declared.vector.RedoRecord.{RedoRecord}
 use Rattle.adg_base.specs.declared.log.LogEntry.{LogEntry}
-use Rattle.adg_model.specs.declared.fault.FrameKind.{FrameKind}
 use Rattle.adg_model.specs.declared.fault.RedoFault.{RedoFault}
-use Rattle.adg_model.specs.Laws.{Continues, HasGrown}
-use Rattle.adg_model.specs.Records.{Raw, raw_bytes, Mark, first_mark, mark_after, raw_of, AreRaws, HasRecords, HasBadRecord}
-use Rattle.adg_model.specs.Log.{thread_mark, least, greatest, is_open, scns_of, or_greatest, frontier, thread_entries, entries_from, in_order, numbered, upto, merged_log}
+use Rattle.adg_model.specs.Laws.{Continues}
+use Rattle.adg_model.specs.Records.{Mark, first_mark, mark_after, raw_of, AreRaws, HasBadRecord}
+use Rattle.adg_model.specs.Log.{thread_mark, least, is_open, scns_of, or_greatest, frontier, thread_entries, entries_from, in_order, numbered, upto, merged_log}
 use Rattle.adg_model.proofs.LogLaws.{each_weaker, thread_entries-append, numbered-append, upto-append, upto_none, upto-upto, IsWithin, thread_entries_within, thread_entries_ordered, OpenFrom, log_grows}
-use Rattle.redo_frames.specs.Assembly.{Assembly}
-use Rattle.log_merger.specs.Thread.{Receiving, raws, HasRead, ReadsOn, IsRead, IsFaultOf}
+use Rattle.log_merger.specs.Thread.{Receiving, raws, HasRead, ReadsOn, IsRead}
 use Rattle.log_merger.specs.Merge.{above, all_waiting, marks_of, Rises, AreQueues, KeepsRest, TakesAll, frontier_of}
-use Rattle.log_merger.specs.Merger.{Merging, with_piece, no_texts, RecordsFrom, IsFirstBad, Part, part_records, IsThread, ThreadsFrom, shown_of, records_of, StandsFor, IsMerged, RefusesFirst}
-use Rattle.log_merger.proofs.ThreadLaws.{Front, front-of, raws-front, raws-back, all-read}
-use Rattle.log_merger.proofs.Orders.{each-filter, rises-filter, rises-ordered, above-append, above_all, above-above, upto-above, in_order-parts, length-in_order, length-numbered}
+use Rattle.log_merger.specs.Merger.{Merging, with_piece, no_texts, RecordsFrom, IsFirstBad, Part, IsThread, ThreadsFrom, shown_of, records_of, StandsFor, IsMerged, RefusesFirst}
+use Rattle.log_merger.proofs.ThreadLaws.{front-of, raws-front, raws-back, all-read}
+use Rattle.log_merger.proofs.Orders.{each-filter, rises-filter, rises-ordered, above-append, above_all, above-above, upto-above, in_order-parts, length-numbered}
 
 -- ---- nothing accepted
 
@@ -73,15 +71,18 @@ threads-set n low j i texts other [] ps d m at lt same number waiting read h = a
 threads-set n low j i texts other (t ∷ ts) [] d m at lt same number waiting read h = absurd h
 threads-set n low j zero texts other (t ∷ ts) (p ∷ ps) d m at lt same number waiting read h =
     let here : j ≡ n = omega arith in
-    let old : HasRead t (texts j) (p.shown ++ p.more) = subst (λ (k : ℕ). HasRead t (texts k) (p.shown ++ p.more)) (sym here) h.0.read in
-    (record {
-      number = number ∙ h.0.number;
-      read = subst (λ (k : ℕ). HasRead m (other k) (p.shown ++ p.more)) here (read (p.shown ++ p.more) old);
-      waiting = waiting ∙ h.0.waiting;
-    }, threads-same (n + 1) low texts other ts ps (λ k le. same k (λ e. omega (arith, e, here, le))) h.1)
-threads-set n low j (suc i) texts other (t ∷ ts) (p ∷ ps) d m at lt same number waiting read h =
-    (subst (λ (text : List ℕ). IsThread n low text t p) (same n (λ e. omega (arith, e, at))) h.0,
-      threads-set (n + 1) low j i texts other ts ps d m (omega (arith, at)) (omega (arith, lt)) same number waiting read h.1)
+    let old : HasRead t (texts j) (p.shown ++ p.more) = subst (λ (k : ℕ). HasRead t (texts k) (p.shown ++ p.more)) (sym here) h.0.read in (
+      record {
+        number = number ∙ h.0.number;
+        read = subst (λ (k : ℕ). HasRead m (other k) (p.shown ++ p.more)) here (read (p.shown ++ p.more) old);
+        waiting = waiting ∙ h.0.waiting;
+      },
+      threads-same (n + 1) low texts other ts ps (λ k le. same k (λ e. omega (arith, e, here, le))) h.1,
+    )
+threads-set n low j (suc i) texts other (t ∷ ts) (p ∷ ps) d m at lt same number waiting read h = (
+  subst (λ (text : List ℕ). IsThread n low text t p) (same n (λ e. omega (arith, e, at))) h.0,
+  threads-set (n + 1) low j i texts other ts ps d m (omega (arith, at)) (omega (arith, lt)) same number waiting read h.1,
+)
 
 pub piece-other : (j : ℕ) (piece : List ℕ) (texts : ℕ → List ℕ) (k : ℕ) → (k ≡ j → ⊥) → texts k ≡ with_piece j piece texts k
 piece-other j piece texts k ne = sym (ap (λ (b : Bool). cond b (texts k ++ piece) (texts k)) (ne_eqb k j ne))
@@ -110,12 +111,15 @@ read-part t u n low text p h on =
     let later : thread_entries t.number (length (p.shown ++ p.more) + 1) s.more ≡ thread_entries n (length p.shown + 1 + length p.more) s.more =
     ap₂ (λ (a b : ℕ). thread_entries a b s.more) h.number number in
     let front = above low (thread_entries n 1 p.shown) in
-    let back = thread_entries n (length p.shown + 1) p.more in
-    (record { shown = p.shown; more = p.more ++ s.more }, refl, record {
-      number = on.number ∙ h.number;
-      read = subst (HasRead u text) (append_assoc p.shown p.more s.more) s.read;
-      waiting = s.entries ∙ ap₂ (λ (x y : List LogEntry). x ++ y) h.waiting later ∙ append_assoc front back _ ∙ ap (λ (l : List LogEntry). front ++ l) (sym (thread_entries-append n (length p.shown + 1) p.more s.more));
-    })
+    let back = thread_entries n (length p.shown + 1) p.more in (
+      record { shown = p.shown; more = p.more ++ s.more },
+      refl,
+      record {
+        number = on.number ∙ h.number;
+        read = subst (HasRead u text) (append_assoc p.shown p.more s.more) s.read;
+        waiting = s.entries ∙ ap₂ (λ (x y : List LogEntry). x ++ y) h.waiting later ∙ append_assoc front back _ ∙ ap (λ (l : List LogEntry). front ++ l) (sym (thread_entries-append n (length p.shown + 1) p.more s.more));
+      },
+    )
 
 read-threads : (n low : ℕ) (texts : ℕ → List ℕ) (ts us : List Receiving) (ps : List Part) → AllZip ReadsOn ts us → ThreadsFrom n low texts ts ps → (qs : List Part) × (shown_of qs ≡ shown_of ps) × ThreadsFrom n low texts us qs
 read-threads n low texts [] [] [] on h = ([], refl, tt)
@@ -306,9 +310,11 @@ are-queues n low texts (u ∷ us) (q ∷ qs) h o =
     let es = thread_entries n 1 rs in
     let raw = follows u (texts n) rs h.0.read in
     let waiting = part-waiting n low (texts n) u q h.0 o.0 in
-    let own = each_weaker (IsWithin n 0 (mark_after first_mark (map raw_of rs)).scn) (λ e. e.thread ≡ n) (λ e k. k.same_thread) es (thread_entries_within n 1 first_mark rs raw) in
-    (subst Rises (sym waiting) (rises-filter (λ e. nat_lt low e.scn) es (rises-ordered es (thread_entries_ordered n 1 first_mark rs raw))),
-      subst (AllByRecursion (λ e. e.thread ≡ n)) (sym waiting) (each-filter (λ e. e.thread ≡ n) (λ e. nat_lt low e.scn) es own), are-queues (n + 1) low texts us qs h.1 o.1)
+    let own = each_weaker (IsWithin n 0 (mark_after first_mark (map raw_of rs)).scn) (λ e. e.thread ≡ n) (λ e k. k.same_thread) es (thread_entries_within n 1 first_mark rs raw) in (
+      subst Rises (sym waiting) (rises-filter (λ e. nat_lt low e.scn) es (rises-ordered es (thread_entries_ordered n 1 first_mark rs raw))),
+      subst (AllByRecursion (λ e. e.thread ≡ n)) (sym waiting) (each-filter (λ e. e.thread ≡ n) (λ e. nat_lt low e.scn) es own),
+      are-queues (n + 1) low texts us qs h.1 o.1,
+    )
 
 -- ---- a merge
 
@@ -329,12 +335,14 @@ merged-threads n low high texts (u ∷ us) (v ∷ vs) [] le h o keeps later = ab
 merged-threads n low high texts (u ∷ us) (v ∷ vs) (q ∷ qs) le h o keeps later =
     let rs = q.shown ++ q.more in
     let es = thread_entries n 1 rs in
-    let read : HasRead v (texts n) rs = kept-read u v (texts n) rs keeps.0 h.0.read in
-    (record {
-      number = ap (λ (t : Receiving). t.number) keeps.0 ∙ h.0.number;
-      read = subst (HasRead v (texts n)) (sym (append-nil rs)) read;
-      waiting = later.0 ∙ ap (above high) (part-waiting n low (texts n) u q h.0 o.0) ∙ above-above low high es le ∙ sym (append-nil (above high es));
-    }, merged-threads (n + 1) low high texts us vs qs le h.1 o.1 keeps.1 later.1)
+    let read : HasRead v (texts n) rs = kept-read u v (texts n) rs keeps.0 h.0.read in (
+      record {
+        number = ap (λ (t : Receiving). t.number) keeps.0 ∙ h.0.number;
+        read = subst (HasRead v (texts n)) (sym (append-nil rs)) read;
+        waiting = later.0 ∙ ap (above high) (part-waiting n low (texts n) u q h.0 o.0) ∙ above-above low high es le ∙ sym (append-nil (above high es));
+      },
+      merged-threads (n + 1) low high texts us vs qs le h.1 o.1 keeps.1 later.1,
+    )
   where
     kept-read : (a b : Receiving) (text : List ℕ) (records : List RedoRecord) → KeepsRest a b → HasRead a text records → HasRead b text records
     kept-read a b text records keep r = subst (λ (t : Receiving). HasRead t text records) (sym keep) (record { holds = r.holds; none_held = r.none_held; readable = r.readable; numbers = r.numbers; mark = r.mark })
@@ -384,16 +392,16 @@ merged-whole m vs texts given entries through s whole at keeps merge =
     let later = subst (λ (n : ℕ). AllZip (λ (x v : Receiving). v.waiting ≡ above n x.waiting) us vs) high_is merge.later in
     record {
       stands = λ new threads count. record {
-          parts = map shown_whole qs;
-          threads = subst (λ (ts : List Receiving). ThreadsFrom 1 (frontier (shown_of (map shown_whole qs))) texts ts (map shown_whole qs)) (sym threads)
-              (subst (λ (l : List (List RedoRecord)). ThreadsFrom 1 (frontier l) texts vs (map shown_whole qs)) (sym (shown-whole qs)) (merged-threads 1 low high texts us vs qs le s.threads o keeps later));
-          log = log ∙ ap merged_log (sym (shown-whole qs));
-          count = count;
-        };
+        parts = map shown_whole qs;
+        threads = subst (λ (ts : List Receiving). ThreadsFrom 1 (frontier (shown_of (map shown_whole qs))) texts ts (map shown_whole qs)) (sym threads)
+            (subst (λ (l : List (List RedoRecord)). ThreadsFrom 1 (frontier l) texts vs (map shown_whole qs)) (sym (shown-whole qs)) (merged-threads 1 low high texts us vs qs le s.threads o keeps later));
+        log = log ∙ ap merged_log (sym (shown-whole qs));
+        count = count;
+      };
       merged = record {
-          records = records_of qs;
-          all = parts-many 1 low texts us qs s.threads;
-          received = records-whole 1 low texts us qs whole s.threads;
-          log = log;
-        };
+        records = records_of qs;
+        all = parts-many 1 low texts us qs s.threads;
+        received = records-whole 1 low texts us qs whole s.threads;
+        log = log;
+      };
     }

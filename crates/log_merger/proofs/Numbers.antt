@@ -1,5 +1,5 @@
 -- The greatest number that the next record of a thread has.
-use Rattle.std.proofs.Common.{◌≡◌, ℕ, ◌+◌, ◌<◌, ◌≤◌, List, [], ◌∷◌, ◌++◌, length, get_or, map, max, zero, suc, refl, sym, ap, ap₂, ◌∙◌, subst, arith, length-append}
+use Rattle.std.proofs.Common.{◌≡◌, ℕ, ◌+◌, ◌<◌, ◌≤◌, List, [], ◌∷◌, ◌++◌, length, get_or, map, max, zero, suc, refl, ap, ap₂, arith, length-append}
 use Rattle.std.proofs.Math.ListN.{set}
 use Rattle.std.specs.List.{AllZip}
 use Rattle.std.proofs.lemmas.List.{get_or-map, length-map, map-set}
@@ -8,7 +8,7 @@ use Rattle.adg_base.specs.declared.vector.RedoRecord.{RedoRecord}
 use Rattle.adg_base.specs.declared.log.LogEntry.{LogEntry}
 use Rattle.adg_model.specs.Records.{Raw, raw_bytes, raw_of, first_mark}
 use Rattle.adg_model.specs.Log.{greatest, frontier}
-use Rattle.redo_frames.specs.Assembly.{Assembly, next_number}
+use Rattle.redo_frames.specs.Assembly.{next_number}
 use Rattle.log_merger.specs.Thread.{Receiving, raws, HasRead, ReadsOn}
 use Rattle.log_merger.specs.Merge.{KeepsRest}
 use Rattle.log_merger.specs.Merger.{Merging, Part, shown_of, ThreadsFrom, StandsFor, highest_number}

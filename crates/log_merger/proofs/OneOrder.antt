@@ -1,6 +1,6 @@
 -- Two lists of the same entries in strictly rising order are equal.
-use Rattle.std.proofs.Common.{◌≡◌, ℕ, ◌<◌, ◌↔◌, true, List, [], ◌∷◌, length, get_or, zero, suc, ◌⊎◌, inl, inr, refl, sym, ap, ap₂, ◌∙◌, subst, arith, true≢false}
-use Rattle.std.specs.List.{AllPairs, Contains}
+use Rattle.std.proofs.Common.{◌≡◌, ℕ, ◌<◌, true, List, [], ◌∷◌, length, get_or, zero, suc, ◌⊎◌, inl, inr, refl, sym, ap₂, ◌∙◌, subst, arith, true≢false}
+use Rattle.std.specs.List.{Contains}
 use Rattle.adg_base.specs.declared.log.LogEntry.{LogEntry}
 use Rattle.adg_model.specs.Log.{comes_before}
 use Rattle.log_merger.specs.Law.{RisesStrictly, OrderIsOne}
@@ -46,6 +46,8 @@ order-is-one (x ∷ xs) [] h k same = absurd (no-members x ((same x).0 (contains
 order-is-one (x ∷ xs) (y ∷ ys) h k same =
     let first : x ≡ y = firsts x y xs ys h k (first-or-later x xs y ((same y).1 (contains-first y ys))) (first-or-later y ys x ((same x).0 (contains-first x xs))) in
     let rest : xs ≡ ys = order-is-one xs ys (rest-rises x xs h) (rest-rises y ys k)
-          (λ e. (λ m. kept-later x y xs ys e first h m (first-or-later y ys e ((same e).0 (contains-later x xs e m))),
-            λ m. kept-later y x ys xs e (sym first) k m (first-or-later x xs e ((same e).1 (contains-later y ys e m))))) in
+    (λ e. (
+      λ m. kept-later x y xs ys e first h m (first-or-later y ys e ((same e).0 (contains-later x xs e m))),
+      λ m. kept-later y x ys xs e (sym first) k m (first-or-later x xs e ((same e).1 (contains-later y ys e m))),
+    )) in
     ap₂ (λ (z : LogEntry) (zs : List LogEntry). z ∷ zs) first rest

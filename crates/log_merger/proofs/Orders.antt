@@ -1,12 +1,12 @@
 -- The order of entries, and the entries up to an SCN and above it.
-use Rattle.std.proofs.Common.{◌≡◌, ℕ, ◌+◌, ◌<◌, ◌≤◌, Bool, true, false, cond, nat_le, nat_lt, List, [], ◌∷◌, ◌++◌, length, filter, ◌⊎◌, inl, inr, refl, sym, ap, ap₂, ◌∙◌, subst, arith, append_assoc, append-nil, true≢false, length-append}
+use Rattle.std.proofs.Common.{◌≡◌, ℕ, ◌+◌, ◌<◌, ◌≤◌, Bool, true, false, cond, nat_le, nat_lt, List, [], ◌∷◌, ◌++◌, length, filter, ◌⊎◌, inl, inr, refl, ap, ◌∙◌, arith}
 use Rattle.std.specs.List.{AllByRecursion}
-use Rattle.std.proofs.lemmas.Bool.{le-leb, lt-leb, lt-ltb, le-ltb, leb-true, leb-false, ltb-true, ltb-false, cases_order}
+use Rattle.std.proofs.lemmas.Bool.{le-leb, lt-leb, lt-ltb, le-ltb, leb-true, leb-false, ltb-true, cases_order}
 use Rattle.std.proofs.lemmas.Bool.Decides.{nat_tests}
 use Rattle.std.proofs.lemmas.List.Elements.{filter-append}
 use Rattle.adg_base.specs.declared.log.LogEntry.{LogEntry}
 use Rattle.adg_model.specs.Log.{comes_before, put_in, in_order, numbered, upto}
-use Rattle.adg_model.proofs.LogLaws.{each_weaker, each-put_in, put_in_first, numbered-append, upto-append, before_by_scn, before_by_thread, Ordered}
+use Rattle.adg_model.proofs.LogLaws.{each_weaker, each-put_in, put_in_first, numbered-append, before_by_scn, before_by_thread, Ordered}
 use Rattle.log_merger.specs.Merge.{above, Rises}
 
 pub each-filter : {X : Type 0} (P : X → Type 0) (p : X → Bool) (xs : List X) → AllByRecursion P xs → AllByRecursion P (filter p xs)
@@ -129,8 +129,10 @@ in_order-parts low (e ∷ es) = by_scn (low_or_high low e) (ap (put_in e) (in_or
   where
     a : List LogEntry
     a = in_order (upto low es)
+
     b : List LogEntry
     b = in_order (above low es)
+
     by_scn : (e.scn ≤ low) ⊎ (low < e.scn) → put_in e (in_order es) ≡ put_in e (in_order (upto low es) ++ in_order (above low es)) → in_order (e ∷ es) ≡ in_order (upto low (e ∷ es)) ++ in_order (above low (e ∷ es))
     by_scn (inl le) ih =
         let t = tests_low low e le in

@@ -1,7 +1,7 @@
 -- Taking the first entry of several queues.
-use Rattle.std.proofs.Common.{◌≡◌, ℕ, ◌+◌, ◌<◌, ◌≤◌, Bool, true, false, cond, nat_le, nat_lt, List, [], ◌∷◌, ◌++◌, length, get_or, map, filter, zero, suc, Option, Some, None, MatchOption, inl, inr, refl, sym, ap, ap₂, ◌∙◌, subst, arith, append_assoc, append-nil, length-append}
+use Rattle.std.proofs.Common.{◌≡◌, ℕ, ◌+◌, ◌<◌, ◌≤◌, Bool, true, false, cond, nat_le, List, [], ◌∷◌, ◌++◌, length, get_or, zero, suc, Option, Some, None, MatchOption, inl, inr, refl, sym, ap, ap₂, ◌∙◌, subst, arith, append_assoc, append-nil, length-append}
 use Rattle.std.proofs.Math.ListN.{set}
-use Rattle.std.specs.List.{AllByRecursion, AllZip, flat_map, sum_by}
+use Rattle.std.specs.List.{AllByRecursion, AllZip}
 use Rattle.std.proofs.lemmas.Bool.{le-leb, leb-false, cases_lt}
 use Rattle.std.proofs.lemmas.List.{nil_from_length, get_or-map, length-map}
 use Rattle.std.proofs.lemmas.List.Sums.{sum_by-cons}
@@ -10,7 +10,7 @@ use Rattle.adg_model.specs.Log.{comes_before, in_order, numbered, upto}
 use Rattle.adg_model.proofs.LogLaws.{each-append, each_weaker, upto_none, upto-append, before_by_scn}
 use Rattle.log_merger.specs.Thread.{Receiving}
 use Rattle.log_merger.specs.Merge.{above, all_waiting, Rises, AreQueues, count_upto, count_all, first_scn, first_scns, IsFirstLeast, KeepsRest, TakesFirst, TakesNext, TakesAll}
-use Rattle.log_merger.proofs.Orders.{each-filter, scn_if_before, before_by_place, in_order-first, length-in_order, tests_low, tests_high, all_above, numbered-push, length-numbered}
+use Rattle.log_merger.proofs.Orders.{each-filter, scn_if_before, before_by_place, in_order-first, length-in_order, tests_low, all_above, numbered-push, length-numbered}
 
 -- all entries of a queue are at or above its first
 first-least : (none : ℕ) (es : List LogEntry) → Rises es → AllByRecursion (λ x. first_scn none es ≤ x.scn) es
@@ -145,8 +145,10 @@ takes-next scn ts i d m r h least given = by_result r given
   where
     within : i < length ts
     within = omega (arith, least.0, length-map ts (λ (t : Receiving). first_scn (scn + 1) t.waiting))
+
     front : get_or (first_scns (scn + 1) ts) i 0 ≡ first_scn (scn + 1) (get_or ts i d).waiting
     front = get_or-map (λ (t : Receiving). first_scn (scn + 1) t.waiting) ts i d 0 within
+
     by_result : (o : Option LogEntry) → MatchOption o (((get_or ts i d).waiting ≡ []) × (m.waiting ≡ [])) (λ e. (get_or ts i d).waiting ≡ e ∷ m.waiting) → TakesNext scn ts (set ts i m) o
     by_result None k =
         let none : first_scn (scn + 1) (get_or ts i d).waiting ≡ scn + 1 = ap (first_scn (scn + 1)) k.0 in
@@ -175,18 +177,18 @@ searching-less limit ns i least scn found s at less =
     let below = searching-limit limit ns i least found s in
     record {
       low = λ k lt. elim (cases_lt k i) [
-          | inl earlier ↦ omega (arith, s.low k earlier, less)
-          | inr same ↦ (let e : k ≡ i = omega (arith, lt, same) in subst (λ (n : ℕ). scn ≤ get_or ns n 0) (sym e) (omega (arith, at)))
-        ];
+        | inl earlier ↦ omega (arith, s.low k earlier, less)
+        | inr same ↦ (let e : k ≡ i = omega (arith, lt, same) in subst (λ (n : ℕ). scn ≤ get_or ns n 0) (sym e) (omega (arith, at)))
+      ];
       found_is = (omega arith, omega (arith, below, less), at, λ k lt. omega (arith, s.low k lt, less));
     }
 
 pub searching-more : (limit : ℕ) (ns : List ℕ) (i least scn : ℕ) (found : Option ℕ) → Searching limit ns i least found → scn ≡ get_or ns i 0 → least ≤ scn → Searching limit ns (i + 1) least found
 searching-more limit ns i least scn found s at more = record {
   low = λ k lt. elim (cases_lt k i) [
-      | inl earlier ↦ s.low k earlier
-      | inr same ↦ (let e : k ≡ i = omega (arith, lt, same) in subst (λ (n : ℕ). least ≤ get_or ns n 0) (sym e) (omega (arith, at, more)))
-    ];
+    | inl earlier ↦ s.low k earlier
+    | inr same ↦ (let e : k ≡ i = omega (arith, lt, same) in subst (λ (n : ℕ). least ≤ get_or ns n 0) (sym e) (omega (arith, at, more)))
+  ];
   found_is = by_found found s.found_is;
 }
   where

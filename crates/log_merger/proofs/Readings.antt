@@ -1,5 +1,5 @@
 -- Reading threads in turn.
-use Rattle.std.proofs.Common.{◌≡◌, ℕ, ◌+◌, ◌<◌, ◌≤◌, List, [], ◌∷◌, ◌++◌, length, get_or, take, drop, zero, suc, ◌⊎◌, inl, inr, refl, sym, ap, ap₂, ◌∙◌, subst, arith, add-one}
+use Rattle.std.proofs.Common.{◌≡◌, ℕ, ◌+◌, ◌<◌, List, [], ◌∷◌, ◌++◌, length, get_or, take, drop, suc, inl, inr, refl, sym, ap, ◌∙◌, subst, arith}
 use Rattle.std.proofs.Math.ListN.{set}
 use Rattle.std.specs.List.{AllByRecursion, AllZip}
 use Rattle.std.proofs.lemmas.List.{take_more, take_more_set, drop_more, drop-set-lt, set_split, take-append-drop}
@@ -33,7 +33,7 @@ reading-next old now i d u r lt lt' reads read =
     record {
       each = subst (λ (l : List Receiving). AllZip ReadsOn l (take (i + 1) (set now i u))) (sym (take_more old i d lt'))
           (subst (AllZip ReadsOn (take i old ++ get_or old i d ∷ [])) (sym (take_more_set now i u lt))
-            (AllZip-push ReadsOn (take i old) (take i now) (get_or old i d) u r.each (subst (λ (t : Receiving). ReadsOn t u) same.0 reads)));
+          (AllZip-push ReadsOn (take i old) (take i now) (get_or old i d) u r.each (subst (λ (t : Receiving). ReadsOn t u) same.0 reads)));
       all = subst (AllByRecursion IsRead) (sym (take_more_set now i u lt)) (each-append IsRead (take i now) (u ∷ []) r.all (read, tt));
       rest = drop-set-lt (i + 1) now i u (omega arith) ∙ same.1;
     }
@@ -62,11 +62,11 @@ reading-stops old now i d u r lt lt' reads =
     let same = next-same old now i d r.rest lt lt' in
     subst (λ (l : List Receiving). AllZip ReadsOn l (set now i u)) (sym (split-old old i d lt'))
     (subst (AllZip ReadsOn (take i old ++ get_or old i d ∷ drop (i + 1) old)) (sym (split-now old now i u lt same.1))
-      (zip-append (take i old) (take i now) (get_or old i d ∷ drop (i + 1) old) (u ∷ drop (i + 1) old) r.each (subst (λ (t : Receiving). ReadsOn t u) same.0 reads, zip-same ReadsOn reads-none (drop (i + 1) old))))
+    (zip-append (take i old) (take i now) (get_or old i d ∷ drop (i + 1) old) (u ∷ drop (i + 1) old) r.each (subst (λ (t : Receiving). ReadsOn t u) same.0 reads, zip-same ReadsOn reads-none (drop (i + 1) old))))
 
 pub reading-refuses : (old now : List Receiving) (i : ℕ) (d u : Receiving) (fault : RedoFault) → Reading old now i → i < length now → i < length old → IsFaultOf (get_or now i d) fault → RefusesFirst old (set now i u) fault
 reading-refuses old now i d u fault r lt lt' bad =
     let same = next-same old now i d r.rest lt lt' in
     subst (λ (l : List Receiving). RefusesFirst l (set now i u) fault) (sym (split-old old i d lt'))
     (subst (λ (l : List Receiving). RefusesFirst (take i old ++ get_or old i d ∷ drop (i + 1) old) l fault) (sym (split-now old now i u lt same.1))
-      (refuses-append (take i old) (take i now) (get_or old i d) u (drop (i + 1) old) (drop (i + 1) old) fault r.each r.all (subst (λ (t : Receiving). IsFaultOf t fault) same.0 bad)))
+    (refuses-append (take i old) (take i now) (get_or old i d) u (drop (i + 1) old) (drop (i + 1) old) fault r.each r.all (subst (λ (t : Receiving). IsFaultOf t fault) same.0 bad)))

@@ -1,5 +1,5 @@
 -- What receiving and reading the records of one thread keeps.
-use Rattle.std.proofs.Common.{◌≡◌, ℕ, ◌+◌, ◌*◌, ◌<◌, ◌≤◌, List, [], ◌∷◌, ◌++◌, length, get_or, take, drop, map, Option, Some, None, append_assoc, append-nil, length-append, take-append-drop, ◌⊎◌, inl, inr, ◌∙◌, ap, ap₂, sym, subst, refl, arith}
+use Rattle.std.proofs.Common.{◌≡◌, ℕ, ◌+◌, ◌*◌, ◌<◌, ◌≤◌, List, [], ◌∷◌, ◌++◌, length, get_or, take, drop, map, Option, Some, None, append_assoc, append-nil, length-append, take-append-drop, inl, inr, ◌∙◌, ap, ap₂, sym, subst, refl, arith}
 use Rattle.std.specs.Prelude.{IsSome}
 use Rattle.std.specs.List.{flat_map}
 use Rattle.std.proofs.lemmas.Bool.{cases_lt}
@@ -10,7 +10,7 @@ use Rattle.adg_base.specs.declared.vector.RedoRecord.{RedoRecord}
 use Rattle.adg_base.specs.declared.log.LogEntry.{LogEntry}
 use Rattle.adg_model.specs.declared.fault.FrameKind.{FrameKind}
 use Rattle.adg_model.specs.declared.fault.RedoFault.{RedoFault}
-use Rattle.adg_model.specs.Records.{Raw, raw_bytes, raw_len, Mark, first_mark, mark_of, mark_after, raw_of, IsRaw, AreRaws, IsPart, AreReadable, HasBadRecord, HasRecords}
+use Rattle.adg_model.specs.Records.{Raw, raw_bytes, Mark, first_mark, mark_of, mark_after, raw_of, IsRaw, AreRaws, IsPart, HasBadRecord, HasRecords}
 use Rattle.adg_model.specs.Spelling.{AreVectors}
 use Rattle.adg_model.specs.Log.{record_entries, thread_entries}
 use Rattle.adg_model.proofs.LogLaws.{each-append, mark_after-append, thread_entries-append}
@@ -18,7 +18,7 @@ use Rattle.adg_model.proofs.RecordsSpelled.{length-raw_bytes, raw-no_part}
 use Rattle.redo_frames.specs.declared.record.RawRecord.{RawRecord}
 use Rattle.redo_frames.specs.Assembly.{Assembly, Holds, raw_of_record}
 use Rattle.redo_frames.specs.Reading.{Stands}
-use Rattle.log_merger.specs.Thread.{Receiving, raws, NumberedFrom, HasRead, Takes, ReadsOne, BadNext, ReadsSome, ReadsOn, IsRead, IsBadRecord, IsFaultOf}
+use Rattle.log_merger.specs.Thread.{Receiving, raws, NumberedFrom, HasRead, Takes, ReadsOne, BadNext, ReadsOn, IsRead, IsBadRecord, IsFaultOf}
 
 -- ---- numbers that count up
 
@@ -144,6 +144,7 @@ room-for old a text piece records h now again = by_fault old.assembly.refused re
   where
     taken : List Raw
     taken = map raw_of records ++ raws old.unread
+
     by_fault : (o : Option FrameKind) → old.assembly.refused ≡ o → 13 * length a.held ≤ length piece + 12
     by_fault None e =
         let all : taken ++ old.assembly.held ≡ taken = ap (λ (l : List Raw). taken ++ l) h.none_held ∙ append-nil taken in
@@ -180,13 +181,13 @@ received old new a text piece records h now takes =
         mark = marks ∙ now.mark ∙ ap (mark_after first_mark) (all ∙ whole);
         stands = subst (λ (o : Option FrameKind). Stands o first_mark (text ++ piece) ((rs ++ raws new.unread) ++ b.held) b.rest) (sym refused)
             (subst (λ (t : List ℕ). Stands a.refused first_mark (text ++ piece) ((rs ++ raws new.unread) ++ b.held) t) (sym rest)
-              (subst (λ (l : List Raw). Stands a.refused first_mark (text ++ piece) l a.rest) (all ∙ whole) now.stands));
+            (subst (λ (l : List Raw). Stands a.refused first_mark (text ++ piece) l a.rest) (all ∙ whole) now.stands));
       };
       none_held = none;
       readable = h.readable;
       numbers = subst (NumberedFrom (length records + 1)) (sym takes.added)
           (numbered_more (length records + 1) (a.taken + 1) old.unread more h.numbers takes.numbers
-            (omega (arith, now.count, length-append rs (raws old.unread), length-map records raw_of, length-map old.unread raw_of_record)));
+          (omega (arith, now.count, length-append rs (raws old.unread), length-map records raw_of, length-map old.unread raw_of_record)));
       mark = takes.mark ∙ ap (λ (m : Mark). mark_after m a.held) start ∙ sym (mark_after-append first_mark before a.held) ∙ sym now.mark ∙ sym marks;
     }
 
@@ -197,10 +198,10 @@ reads-none t = record {
   number = refl;
   assembly = refl;
   reads = λ text records h. record {
-      more = [];
-      read = subst (HasRead t text) (sym (append-nil records)) h;
-      entries = sym (append-nil t.waiting);
-    };
+    more = [];
+    read = subst (HasRead t text) (sym (append-nil records)) h;
+    entries = sym (append-nil t.waiting);
+  };
 }
 
 push-record : (records : List RedoRecord) (r : RedoRecord) (raw : RawRecord) (later : List RawRecord) → raw_of r ≡ raw_of_record raw → map raw_of records ++ raws (raw ∷ later) ≡ map raw_of (records ++ r ∷ []) ++ raws later

@@ -11,7 +11,7 @@ use Rattle.adg_model.specs.Log.{thread_entries, frontier, merged_log, greatest}
 use Rattle.redo_frames.specs.Assembly.{next_number}
 use Rattle.log_merger.specs.declared.refused.MergeRefused.{MergeRefused}
 use Rattle.log_merger.specs.declared.refused.MergeRefused.TheVariants.{Redo, Memory}
-use Rattle.log_merger.specs.Thread.{Receiving, HasRead, ReadsOn, IsRead, IsFaultOf}
+use Rattle.log_merger.specs.Thread.{Receiving, HasRead, IsRead, IsFaultOf}
 use Rattle.log_merger.specs.Merge.{above}
 
 -- the threads, how many entries were given, and the refusal that was answered

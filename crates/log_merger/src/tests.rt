@@ -209,10 +209,13 @@ fn merges(rt: HostRuntime) -> Result<(), Fail> {
 /// A record of SCN 5 without vectors. Behind it: one of SCN 9 whose vector cannot be read and a length
 /// below that of a record; and the end of the thread at SCN 9 and one byte. The length alone.
 const GOOD: &[u8] = b"\0\x0d\0\0\0\0\0\0\0\x05\0\0\x0d";
+
 const BAD_VECTOR: &[u8] = b"\0\x0d\0\0\0\0\0\0\0\x05\0\0\x0d\
 \0\x0e\0\0\0\0\0\0\0\x09\x01\x0c\0\x0e\0\x0c";
+
 const AFTER_END: &[u8] = b"\0\x0d\0\0\0\0\0\0\0\x05\0\0\x0d\
 \0\x0e\0\0\0\0\0\0\0\x09\x01\x0b\0\x0e\0";
+
 const SHORT: &[u8] = b"\0\x0c";
 
 /// Refuses what threads 1 and 2 of three bring: twice with this fault, and some redo between.

@@ -135,11 +135,7 @@ impl RedoThread {
     {
         self.unread.try_reserve(piece.len() / RECORD_OVERHEAD + 1)?;
         feed(&mut self.assembler, piece)?;
-        take_all(
-            &mut self.assembler,
-            &mut self.mark,
-            &mut self.unread,
-        )
+        take_all(&mut self.assembler, &mut self.mark, &mut self.unread)
     }
 
     /// Reads the vectors of the first unread record. Gives whether there was one.

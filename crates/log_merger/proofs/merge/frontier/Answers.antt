@@ -1,5 +1,4 @@
-use Rattle.std.proofs.Common.{◌≡◌, ◌+◌, ◌++◌, ◌∷◌, [], List, Option, Some, max, take, get_or, ap, ap₂, sym, subst, ◌∙◌, arith, filter}
-use Rattle.std.proofs.lemmas.Bool.{not-true, not-false}
+use Rattle.std.proofs.Common.{◌≡◌, ◌+◌, ◌++◌, ◌∷◌, [], List, max, take, get_or, ap, ap₂, sym, subst, ◌∙◌, filter}
 use Rattle.std.proofs.lemmas.List.{take_more, map-append}
 use Rattle.adg_model.specs.Records.{Mark}
 use Rattle.adg_model.specs.Log.{greatest, is_open, scns_of}

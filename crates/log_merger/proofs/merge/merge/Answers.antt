@@ -1,4 +1,4 @@
-use Rattle.std.proofs.Common.{◌≡◌, ◌+◌, ◌++◌, ◌∷◌, [], List, length, ap, sym, subst, ◌∙◌, arith, ℕ}
+use Rattle.std.proofs.Common.{◌≡◌, ◌++◌, ◌∷◌, [], List, length, ap, sym, subst, ◌∙◌, arith, ℕ}
 use Rattle.adg_base.specs.declared.log.LogEntry.{LogEntry}
 use Rattle.log_merger.specs.Merge.{count_all}
 use Rattle.log_merger.proofs.Queues.{Giving, keeps-same, keeps-trans, giving-start, giving-next, giving-end, giving-all}

@@ -1,7 +1,6 @@
 use Rattle.log_merger.specs.Merge.{KeepsRest}
 use Rattle.log_merger.proofs.Queues.{takes-none, takes-next, keeps-same, zip-set}
-use Rattle.std.proofs.Common.{refl, subst}
-use Rattle.log_merger.specs.Thread.{Receiving}
+use Rattle.std.proofs.Common.{refl}
 use Rattle.log_merger.proofs.merge.next_entry.Goals as goal
 
 pub returns-in_err-index-clause-takes : goal.returns-in_err-index-clause-takes

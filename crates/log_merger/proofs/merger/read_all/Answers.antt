@@ -1,4 +1,4 @@
-use Rattle.std.proofs.Common.{◌≡◌, ◌∙◌, ◌<◌, length, take, ap, subst, sym, arith}
+use Rattle.std.proofs.Common.{◌<◌, length, arith}
 use Rattle.std.proofs.lemmas.Result.{err_from_is_err_and}
 use Rattle.log_merger.proofs.Readings.{reading-start, reading-next, reading-stops, reading-refuses}
 use Rattle.log_merger.proofs.merger.read_all.Goals as goal

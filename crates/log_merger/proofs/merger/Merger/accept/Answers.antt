@@ -1,4 +1,4 @@
-use Rattle.std.proofs.Common.{◌≡◌, ℕ, ◌+◌, ◌-◌, ◌<◌, ◌≤◌, ◌++◌, List, length, get_or, refl, subst, sym, ap, ◌∙◌, arith}
+use Rattle.std.proofs.Common.{ℕ, ◌-◌, ◌<◌, List, length, refl, subst, sym, ap, ◌∙◌, arith}
 use Rattle.std.proofs.Math.ListN.{set}
 use Rattle.std.proofs.lemmas.Result.{on_ok_weaker, on_err_weaker}
 use Rattle.redo_frames.specs.Assembly.{next_number}
@@ -28,9 +28,9 @@ returns-clause-ok c =
     let new : Merging = record { threads = set ts i m; given = c.self.inside.given; refused = c.self.inside.refused } in
     on_ok_weaker c.accept.result
     (λ ok texts given s. stands-set old new texts (with_piece c.args.thread c.args.piece.now texts) given c.args.thread i d m refl refl (omega (arith, c.requires.thread)) within
-      (piece-other c.args.thread c.args.piece.now texts) (c.accept.ensures.number ∙ ap (λ (t : Receiving). t.number) value) (c.accept.ensures.waiting ∙ ap (λ (t : Receiving). t.waiting) value)
-      (λ records h. subst (λ (text : List ℕ). HasRead m text records) (piece-own c.args.thread c.args.piece.now texts) (ok (texts c.args.thread) records (subst (λ (t : Receiving). HasRead t (texts c.args.thread) records) (sym value) h)))
-      (subst (λ (x : Merging). StandsFor x texts given) (sym c.self.view_is) s))
+    (piece-other c.args.thread c.args.piece.now texts) (c.accept.ensures.number ∙ ap (λ (t : Receiving). t.number) value) (c.accept.ensures.waiting ∙ ap (λ (t : Receiving). t.waiting) value)
+    (λ records h. subst (λ (text : List ℕ). HasRead m text records) (piece-own c.args.thread c.args.piece.now texts) (ok (texts c.args.thread) records (subst (λ (t : Receiving). HasRead t (texts c.args.thread) records) (sym value) h)))
+    (subst (λ (x : Merging). StandsFor x texts given) (sym c.self.view_is) s))
     c.accept.ensures.ok
 
 pub returns-clause-memory : goal.returns-clause-memory
@@ -45,9 +45,9 @@ returns-clause-memory c =
     let new : Merging = record { threads = set ts i m; given = c.self.inside.given; refused = c.self.inside.refused } in
     on_err_weaker c.accept.result
     (λ memory texts given s. stands-set old new texts texts given c.args.thread i d m refl refl (omega (arith, c.requires.thread)) within
-      (λ k ne. refl) (c.accept.ensures.number ∙ ap (λ (t : Receiving). t.number) value) (c.accept.ensures.waiting ∙ ap (λ (t : Receiving). t.waiting) value)
-      (λ records h. memory (texts c.args.thread) records (subst (λ (t : Receiving). HasRead t (texts c.args.thread) records) (sym value) h))
-      (subst (λ (x : Merging). StandsFor x texts given) (sym c.self.view_is) s))
+    (λ k ne. refl) (c.accept.ensures.number ∙ ap (λ (t : Receiving). t.number) value) (c.accept.ensures.waiting ∙ ap (λ (t : Receiving). t.waiting) value)
+    (λ records h. memory (texts c.args.thread) records (subst (λ (t : Receiving). HasRead t (texts c.args.thread) records) (sym value) h))
+    (subst (λ (x : Merging). StandsFor x texts given) (sym c.self.view_is) s))
     c.accept.ensures.memory
 
 pub returns-clause-number : goal.returns-clause-number

@@ -1,7 +1,7 @@
-use Rattle.std.proofs.Common.{ap, subst, sym, ◌∙◌}
+use Rattle.std.proofs.Common.{ap, ◌∙◌}
 use Rattle.adg_model.specs.Log.{frontier}
 use Rattle.log_merger.specs.Merge.{marks_of, frontier_of}
-use Rattle.log_merger.specs.Merger.{Merging, StandsFor, shown_of}
+use Rattle.log_merger.specs.Merger.{Merging, shown_of}
 use Rattle.log_merger.specs.Thread.{Receiving}
 use Rattle.std.proofs.Common.{List}
 use Rattle.log_merger.proofs.Determined.{frontier-same}

@@ -1,5 +1,4 @@
-use Rattle.std.proofs.Common.{◌≡◌, ◌+◌, ◌++◌, ◌∷◌, [], List, None, length, length-append, map, ap, subst, sym, ◌∙◌, arith, refl}
-use Rattle.log_merger.specs.Thread.{Receiving}
+use Rattle.std.proofs.Common.{◌+◌, ◌∷◌, [], None, length, length-append, ap, subst, sym, arith}
 use Rattle.log_merger.proofs.Merged.{FreshFrom, fresh-push, stands-new}
 use Rattle.log_merger.proofs.Numbers.{number-push}
 use Rattle.log_merger.proofs.merger.Merger.new.Goals as goal

@@ -1,4 +1,4 @@
-use Rattle.std.proofs.Common.{◌≡◌, ◌+◌, ◌≤◌, length, map}
+use Rattle.std.proofs.Common.{◌≡◌, ◌≤◌, length, map}
 use Rattle.adg_model.specs.Log.{greatest}
 use Rattle.redo_frames.specs.Assembly.{next_number}
 use Rattle.log_merger.proofs.Merged.{FreshFrom}

@@ -1,12 +1,11 @@
 use Rattle.std.proofs.Common.{◌≡◌, List, Vec, Global, Some, length, refl, sym, ap, subst, ◌∙◌}
-use Rattle.std.specs.List.{AllByRecursion, AllZip}
+use Rattle.std.specs.List.{AllZip}
 use Rattle.std.specs.Vec.{with_items}
 use Rattle.std.proofs.lemmas.List.{with_items_is}
 use Rattle.std.proofs.lemmas.List.Elements.{length_all_zip}
 use Rattle.adg_model.specs.Log.{greatest}
-use Rattle.adg_model.specs.declared.fault.RedoFault.{RedoFault}
 use Rattle.log_merger.specs.declared.thread.RedoThread.{RedoThread}
-use Rattle.log_merger.specs.Thread.{Receiving, ReadsOn, IsRead}
+use Rattle.log_merger.specs.Thread.{Receiving, ReadsOn}
 use Rattle.log_merger.specs.Merger.{Merging, StandsFor, IsFirstBad, RefusesFirst, highest_number}
 use Rattle.log_merger.proofs.Merged.{stands-read, first-bad}
 use Rattle.log_merger.proofs.Numbers.{numbers, numbers-read}

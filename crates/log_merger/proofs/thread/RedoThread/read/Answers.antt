@@ -1,6 +1,5 @@
 use Rattle.std.proofs.Common.{◌≡◌, Bool, Ok, Err, subst}
 use Rattle.std.proofs.lemmas.Result.{err_from_is_err_and}
-use Rattle.adg_model.specs.declared.fault.RedoFault.{RedoFault}
 use Rattle.log_merger.specs.declared.refused.MergeRefused.{MergeRefused}
 use Rattle.log_merger.specs.declared.refused.MergeRefused.TheVariants.{Redo}
 use Rattle.log_merger.specs.Thread.{ReadsNext}

@@ -1,5 +1,4 @@
 use Rattle.std.proofs.Common.{◌≡◌, ℕ, ◌<◌, ◌∷◌, List, Err, length, drop, refl, ap, subst, sym, ◌∙◌, arith}
-use Rattle.adg_model.specs.declared.fault.RedoFault.{RedoFault}
 use Rattle.adg_model.specs.declared.fault.RedoKind.TheVariants.{BadVector}
 use Rattle.adg_model.specs.Spelling.{AreVectors, IsBadVector}
 use Rattle.adg_model.proofs.RecordsSpelled.{raw_same}
@@ -17,15 +16,17 @@ returns-in-Err-BadVector c =
     let some : 0 < length xs = omega (arith, c.in-Some.ensures.variant.0 refl, c.self.inside.unread.ok.0) in
     let first : xs ≡ r ∷ drop 1 xs = first-is xs r some c.in-Some.ensures.lookup in
     let number : c.self.inside.number ≡ c.args.self.now.number = ap (λ (t : Receiving). t.number) c.self.view_is in
-    let found : IsBadVector r.count c.as_slice.result.now i = c.in-Err-BadVector.ensures.bad i (ap (λ (x : VectorsRefused). Err x) c.in-Err-BadVector.field-0-is) in
-    (refl, record {
-      raw = r;
-      later = drop 1 xs;
-      first = ap (λ (t : Receiving). t.unread) (sym c.self.view_is) ∙ first;
-      index = i;
-      fault_is = ap (λ (n : ℕ). record { thread = n; number = r.number; kind = BadVector i }) number;
-      bad = subst (λ (t : List ℕ). IsBadVector r.count t i) c.as_slice.ensures found;
-    })
+    let found : IsBadVector r.count c.as_slice.result.now i = c.in-Err-BadVector.ensures.bad i (ap (λ (x : VectorsRefused). Err x) c.in-Err-BadVector.field-0-is) in (
+      refl,
+      record {
+        raw = r;
+        later = drop 1 xs;
+        first = ap (λ (t : Receiving). t.unread) (sym c.self.view_is) ∙ first;
+        index = i;
+        fault_is = ap (λ (n : ℕ). record { thread = n; number = r.number; kind = BadVector i }) number;
+        bad = subst (λ (t : List ℕ). IsBadVector r.count t i) c.as_slice.ensures found;
+      },
+    )
 
 pub returns-in_ok-push_entries-in-Ok : goal.returns-in_ok-push_entries-in-Ok
 returns-in_ok-push_entries-in-Ok c =
