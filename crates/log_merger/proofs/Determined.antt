@@ -1,0 +1,96 @@
+-- The whole records of a text are the only ones, also those that are not read yet.
+use Rattle.std.proofs.Common.{◌≡◌, ℕ, ◌+◌, ◌-◌, ◌<◌, ◌≤◌, ◌^◌, List, [], ◌∷◌, ◌++◌, length, take, drop, map, Option, Some, None, refl, sym, ap, ap₂, ◌∙◌, subst, arith, append_assoc, length-append}
+use Rattle.std.specs.Int.{w16, w64, to_be_bytes, from_be_bytes}
+use Rattle.std.specs.List.{flat_map}
+use Rattle.std.proofs.lemmas.List.{drop_at}
+use Rattle.std.proofs.lemmas.Nat.{from_be_bytes-to_be_bytes_2}
+use Rattle.adg_base.specs.declared.vector.RedoRecord.{RedoRecord}
+use Rattle.adg_model.specs.declared.fault.FrameKind.{FrameKind}
+use Rattle.adg_model.specs.Records.{Raw, raw_len, raw_bytes, IsPart, Mark, first_mark, mark_of, mark_after, raw_of, AreRaws, stated_scn, whole_fault, record_fault, HasRecords}
+use Rattle.adg_model.specs.Log.{thread_mark, frontier}
+use Rattle.adg_model.proofs.RecordsFault.{trailer_at, fault_whole}
+use Rattle.adg_model.proofs.RecordsSpelled.{reads_as, raw_bytes-apart, raw-no_part}
+use Rattle.redo_frames.specs.NextRecord.{Stops}
+use Rattle.redo_frames.specs.Reading.{Stands}
+use Rattle.log_merger.specs.Thread.{Receiving, raws, HasRead}
+use Rattle.log_merger.specs.Merge.{marks_of, frontier_of}
+use Rattle.log_merger.specs.Merger.{RecordsFrom, Part, ThreadsFrom}
+
+-- ---- a record that may follow has no fault
+
+-- the bytes of a record before its last two
+front_bytes : Raw → List ℕ
+front_bytes r = to_be_bytes w16 (raw_len r) ++ to_be_bytes w64 r.scn ++ r.count ∷ r.body
+
+front-apart : (r : Raw) (rest : List ℕ) → raw_bytes r ++ rest ≡ front_bytes r ++ (to_be_bytes w16 (raw_len r) ++ rest)
+unfolding raw_bytes front_bytes
+front-apart r rest = append_assoc (to_be_bytes w16 (raw_len r) ++ to_be_bytes w64 r.scn ++ r.count ∷ r.body) (to_be_bytes w16 (raw_len r)) rest
+
+length-front : (r : Raw) → length (front_bytes r) ≡ raw_len r - 2
+unfolding front_bytes
+length-front r = omega (arith, length-append (to_be_bytes w16 (raw_len r) ++ to_be_bytes w64 r.scn) (r.count ∷ r.body))
+
+trailer-is : (r : Raw) (rest : List ℕ) → raw_len r < 2 ^ 16 → trailer_at (raw_bytes r ++ rest) (raw_len r) ≡ raw_len r
+trailer-is r rest lt =
+    ap (λ (t : List ℕ). from_be_bytes w16 (take 2 (drop (raw_len r - 2) t))) (front-apart r rest)
+    ∙ ap (λ (t : List ℕ). from_be_bytes w16 (take 2 t)) (drop_at (front_bytes r) (to_be_bytes w16 (raw_len r) ++ rest) (raw_len r - 2) (length-front r))
+    ∙ from_be_bytes-to_be_bytes_2 (raw_len r) lt
+
+whole-good : (last : ℕ) (bytes : List ℕ) (len : ℕ) → trailer_at bytes len ≡ len → 1 ≤ stated_scn bytes → stated_scn bytes < 2 ^ 48 → last < stated_scn bytes → whole_fault last bytes len ≡ None
+whole-good last bytes len good from to rises = grind arith
+
+record-good : (m : Mark) (r : Raw) (rest : List ℕ) → AreRaws m (r ∷ []) → record_fault m (raw_bytes r ++ rest) ≡ None
+record-good m r rest h =
+    let text = raw_bytes r ++ rest in
+    let p = reads_as r rest h.0 in
+    fault_whole m text h.1 (omega (arith, p.len)) (omega (arith, p.len, p.whole))
+    ∙ ap (λ (n : ℕ). whole_fault m.scn text n) p.len
+    ∙ whole-good m.scn text (raw_len r) (trailer-is r rest h.0.len) (omega (arith, p.scn, h.0.from)) (omega (arith, p.scn, h.0.to)) (omega (arith, p.scn, h.2))
+
+-- ---- two lists of records of one text
+
+first-apart : (r : Raw) (rs : List Raw) (rest : List ℕ) → flat_map raw_bytes (r ∷ rs) ++ rest ≡ raw_bytes r ++ (flat_map raw_bytes rs ++ rest)
+first-apart r rs rest = append_assoc (raw_bytes r) (flat_map raw_bytes rs) rest
+
+no-stop : (o : Option FrameKind) (m : Mark) (r : Raw) (rest : List ℕ) → AreRaws m (r ∷ []) → Stops o m (raw_bytes r ++ rest) → ⊥
+no-stop None m r rest h s = raw-no_part r rest h.0 s.0
+no-stop (Some kind) m r rest h s = let good = record-good m r rest h in absurd cc
+
+same-raws : (o : Option FrameKind) (m : Mark) (rs ss : List Raw) (x y : List ℕ) → AreRaws m rs → AreRaws m ss → IsPart x → Stops o (mark_after m ss) y → flat_map raw_bytes rs ++ x ≡ flat_map raw_bytes ss ++ y → rs ≡ ss
+same-raws o m [] [] x y h k part stop e = refl
+same-raws o m [] (s ∷ ss) x y h k part stop e = absurd (raw-no_part s (flat_map raw_bytes ss ++ y) k.0 (subst IsPart (e ∙ first-apart s ss y) part))
+same-raws o m (r ∷ rs) [] x y h k part stop e = absurd (no-stop o m r (flat_map raw_bytes rs ++ x) (h.0, h.1, h.2, tt) (subst (Stops o m) (sym e ∙ first-apart r rs x) stop))
+same-raws o m (r ∷ rs) (s ∷ ss) x y h k part stop e =
+    let p = raw_bytes-apart r s (flat_map raw_bytes rs ++ x) (flat_map raw_bytes ss ++ y) h.0 k.0 (sym (first-apart r rs x) ∙ e ∙ first-apart s ss y) in
+    ap₂ (λ (t : Raw) (ts : List Raw). t ∷ ts) p.0 (same-raws o (mark_of s) rs ss x y (subst (λ (t : Raw). AreRaws (mark_of t) rs) p.0 h.3) k.3 part stop p.1)
+
+record Ending (o : Option FrameKind) (m : Mark) (text : List ℕ) (rs : List Raw) : Type 0 where
+  tail : List ℕ
+  spelled : text ≡ flat_map raw_bytes rs ++ tail
+  follow : AreRaws m rs
+  stop : Stops o (mark_after m rs) tail
+
+ending : (o : Option FrameKind) (m : Mark) (text : List ℕ) (rs : List Raw) (rest : List ℕ) → Stands o m text rs rest → Ending o m text rs
+ending None m text rs rest s = record { tail = rest; spelled = s.spelled; follow = s.follow; stop = (s.part, s.good) }
+ending (Some kind) m text rs rest s = record { tail = s.rest; spelled = s.spelled; follow = s.follow; stop = s.shown }
+
+-- a thread stands where the records of its text leave it
+mark-same : (t : Receiving) (text : List ℕ) (read records : List RedoRecord) → HasRead t text read → HasRecords text records → t.mark ≡ thread_mark records
+mark-same t text read records h k =
+    let all = (map raw_of read ++ raws t.unread) ++ t.assembly.held in
+    let end = ending t.assembly.refused first_mark text all t.assembly.rest h.holds.stands in
+    let same = same-raws t.assembly.refused first_mark (map raw_of records) all k.rest end.tail k.raws.follow end.follow k.raws.part end.stop (sym k.raws.spelled ∙ end.spelled) in
+    h.mark ∙ h.holds.mark ∙ ap (mark_after first_mark) (sym same)
+
+marks-same : (n low : ℕ) (texts : ℕ → List ℕ) (ts : List Receiving) (ps : List Part) (records : List (List RedoRecord)) → ThreadsFrom n low texts ts ps → length records ≡ length ts → RecordsFrom n texts records → marks_of ts ≡ map thread_mark records
+marks-same n low texts [] [] [] h many k = refl
+marks-same n low texts [] [] (r ∷ rs) h many k = absurd (omega (arith, many))
+marks-same n low texts [] (p ∷ ps) records h many k = absurd h
+marks-same n low texts (t ∷ ts) [] records h many k = absurd h
+marks-same n low texts (t ∷ ts) (p ∷ ps) [] h many k = absurd (omega (arith, many))
+marks-same n low texts (t ∷ ts) (p ∷ ps) (r ∷ rs) h many k =
+    ap₂ (λ (m : Mark) (ms : List Mark). m ∷ ms) (mark-same t (texts n) (p.shown ++ p.more) r h.0.read k.0) (marks-same (n + 1) low texts ts ps rs h.1 (omega (arith, many)) k.1)
+
+pub frontier-same : (low : ℕ) (texts : ℕ → List ℕ) (ts : List Receiving) (ps : List Part) (records : List (List RedoRecord)) → ThreadsFrom 1 low texts ts ps → length records ≡ length ts → RecordsFrom 1 texts records → frontier_of (marks_of ts) ≡ frontier records
+unfolding frontier
+frontier-same low texts ts ps records h many k = ap frontier_of (marks-same 1 low texts ts ps records h many k)

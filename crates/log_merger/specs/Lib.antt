@@ -1,0 +1,4 @@
+pub mod Thread
+pub mod Merge
+pub mod Merger
+pub mod Law
