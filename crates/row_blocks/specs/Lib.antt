@@ -1,0 +1,3 @@
+pub mod Pick
+pub mod Versions
+pub mod Law
