@@ -1,8 +1,8 @@
 -- The walk over a log, and the versions and ends that it makes: the picked version is the committed row.
-use Rattle.std.proofs.Common.{◌≡◌, ℕ, ◌+◌, ◌<◌, ◌≤◌, ◌==◌, nat_lt, nat_le, Bool, true, false, not, cond, ◌&&◌, ◌||◌, List, [], ◌∷◌, ◌++◌, map, filter, length, Option, Some, None, refl, sym, ap, ap₂, ◌∙◌, arith, append-nil, append_assoc, true≢false}
+use Rattle.std.proofs.Common.{◌≡◌, ℕ, ◌+◌, ◌<◌, ◌≤◌, ◌==◌, nat_lt, nat_le, Bool, true, false, not, cond, ◌&&◌, ◌||◌, List, [], ◌∷◌, ◌++◌, map, filter, length, Option, Some, None, refl, sym, ap, ap₂, ◌∙◌, arith, append-nil, append_assoc, true≢false, subst}
 use Rattle.std.specs.List.{list_any, AllByRecursion}
 use Rattle.std.specs.Option.{is_some}
-use Rattle.std.proofs.lemmas.Bool.{eqb-true, and_parts, not-true, le-leb}
+use Rattle.std.proofs.lemmas.Bool.{eqb-true, and_parts, not-true, le-leb, leb-true, leb-false, lt-ltb}
 use Rattle.std.proofs.lemmas.Option.{same_Some, none-some}
 use Rattle.std.proofs.lemmas.Bool.Decides.{nat_tests}
 use Rattle.adg_base.specs.Address.{Place}
@@ -14,6 +14,7 @@ use Rattle.adg_model.specs.Log.{numbered, upto}
 use Rattle.adg_model.specs.Database.{Rows, Change, Database, place, same_place, changed, played, struck, set_at, after, walked, database, no_database, rows_at}
 use Rattle.adg_model.specs.declared.fault.CheckKind.{CheckKind}
 use Rattle.adg_model.specs.Sound.{demand, refusal, SoundFrom, IsSound, ScnsWithin, is_running}
+use Rattle.adg_model.proofs.LogLaws.{upto_none}
 use Rattle.row_blocks.specs.declared.version.Version.{Version}
 use Rattle.row_blocks.specs.declared.version.End.{End}
 use Rattle.row_blocks.specs.Pick.{Commits, counted, Candidate, candidate, later, latest, row_of, latest_by, picked_by}
@@ -416,3 +417,214 @@ module _ (a : Place) (q : ℕ) (db : Database) (vs : List Version) (ends : ℕ �
   tied_vector (AddColumn o k) h = tied_same a q db _ vs ends _ pos s refl refl refl (λ u. earlier_none (ends u))
   tied_vector (NoInMemory o) h = tied_same a q db _ vs ends _ pos s refl refl refl (λ u. earlier_none (ends u))
   tied_vector EndThread h = tied_same a q db _ vs ends _ pos s refl refl refl (λ u. earlier_none (ends u))
+
+-- the ends after more entries
+abbrev pub ends_after : (ℕ → Option End) → List LogEntry → ℕ → Option End
+ends_after ends [] = ends
+ends_after ends (e ∷ es) = ends_after (λ t. earlier (ends t) (end_by t e.pos e.scn e.vector)) es
+
+earlier_assoc : (x y z : Option End) → earlier (earlier x y) z ≡ earlier x (earlier y z)
+earlier_assoc None y z = refl
+earlier_assoc (Some e) y z = refl
+
+pub ends_after-is : (ends : ℕ → Option End) (es : List LogEntry) (t : ℕ) → ends_after ends es t ≡ earlier (ends t) (end_of es t)
+ends_after-is ends [] t = sym (earlier_none (ends t))
+ends_after-is ends (e ∷ es) t =
+    ends_after-is (λ u. earlier (ends u) (end_by u e.pos e.scn e.vector)) es t ∙ earlier_assoc (ends t) (end_by t e.pos e.scn e.vector) (end_of es t)
+
+pub end_of-append : (xs ys : List LogEntry) (t : ℕ) → end_of (xs ++ ys) t ≡ earlier (end_of xs t) (end_of ys t)
+end_of-append [] ys t = refl
+end_of-append (e ∷ xs) ys t =
+    ap (earlier (end_by t e.pos e.scn e.vector)) (end_of-append xs ys t) ∙ sym (earlier_assoc (end_by t e.pos e.scn e.vector) (end_of xs t) (end_of ys t))
+
+-- positions that count up from one on
+abbrev pub Placed : ℕ → List LogEntry → Type 0
+Placed pos [] = Unit {0}
+Placed pos (e ∷ es) = (e.pos ≡ pos) × Placed (pos + 1) es
+
+pub placed : (pos : ℕ) (es : List LogEntry) → numbered pos es ≡ es → Placed pos es
+placed pos [] h = tt
+placed pos (e ∷ es) h =
+    let first : record e { pos = pos } ≡ e = cc in
+    let rest : numbered (pos + 1) es ≡ es = cc in
+    (sym (ap (λ (x : LogEntry). x.pos) first), placed (pos + 1) es rest)
+
+pub tied_walk : (a : Place) (q : ℕ) (db : Database) (vs : List Version) (ends : ℕ → Option End) (pos : ℕ) (es : List LogEntry) → IsTied a q db vs ends pos
+  → SoundFrom db es → Placed pos es → AllByRecursion (λ e. e.scn ≤ q) es
+  → IsTied a q (walked db es) (versions_after a vs es) (ends_after ends es) (pos + length es)
+tied_walk a q db vs ends pos [] s sound place upto = let e : pos ≡ pos + 0 = omega arith in subst (λ n. IsTied a q db vs ends n) e s
+tied_walk a q db vs ends pos (e ∷ es) s sound place upto =
+    let p : pos ≡ e.pos = sym place.0 in
+    let s' : IsTied a q db vs ends e.pos = subst (λ n. IsTied a q db vs ends n) p s in
+    let places : Placed (e.pos + 1) es = subst (λ n. Placed (n + 1) es) p place.1 in
+    let next = tied_walk a q (after db e.vector) (after_deed vs e.pos (deed_at a e.vector)) (λ t. earlier (ends t) (end_by t e.pos e.scn e.vector)) (e.pos + 1) es
+      (tied_vector a q db vs ends e.pos s' e.scn upto.0 e.vector sound.1) sound.2 places upto.1 in
+    let sum : e.pos + 1 + length es ≡ pos + length (e ∷ es) = omega arith in
+    subst (λ n. IsTied a q (walked db (e ∷ es)) (versions_after a vs (e ∷ es)) (ends_after ends (e ∷ es)) n) sum next
+
+-- a log as the entries up to an SCN and those above it
+pub record Splits (q : ℕ) (log : List LogEntry) : Type 0 where
+  pub low : List LogEntry
+  pub high : List LogEntry
+  pub whole : log ≡ low ++ high
+  pub upto : upto q log ≡ low
+  pub are_low : AllByRecursion (λ e. e.scn ≤ q) low
+  pub are_high : AllByRecursion (λ e. q < e.scn) high
+
+pub all_above : (q low high : ℕ) (es : List LogEntry) → ScnsWithin low high es → q < low → AllByRecursion (λ e. q < e.scn) es
+all_above q low high [] h k = tt
+all_above q low high (e ∷ es) h k = let m : low ≤ e.scn = h.0 in (omega arith, all_above q e.scn high es h.2 (omega arith))
+
+pub splits : (q low high : ℕ) (es : List LogEntry) → ScnsWithin low high es → Splits q es
+splits q low high [] h = record { low = []; high = []; whole = refl; upto = refl; are_low = tt; are_high = tt }
+splits q low high (e ∷ es) h = by_test (nat_le e.scn q) refl (splits q e.scn high es h.2)
+  where
+    by_test : (b : Bool) → nat_le e.scn q ≡ b → Splits q es → Splits q (e ∷ es)
+    by_test true k s = record {
+      low = e ∷ s.low;
+      high = s.high;
+      whole = ap (λ l. e ∷ l) s.whole;
+      upto = rw k (ap (λ l. e ∷ l) s.upto);
+      are_low = (leb-true e.scn q k, s.are_low);
+      are_high = s.are_high;
+    }
+    by_test false k s =
+        let above : q < e.scn = leb-false e.scn q k in
+        let rest : AllByRecursion (λ x. q < x.scn) es = all_above q e.scn high es h.2 above in
+        record {
+          low = [];
+          high = e ∷ es;
+          whole = refl;
+          upto = rw k (upto_none q es rest);
+          are_low = tt;
+          are_high = (above, rest);
+        }
+
+-- what a deed's transaction is
+abbrev pub OfDeed : (ℕ → Type 0) → Option Deed → Type 0
+OfDeed P None = Unit {0}
+OfDeed P (Some (Makes t row)) = P t
+OfDeed P (Some (Strikes t)) = P t
+
+pub of_deed : (P Q : ℕ → Type 0) (d : Option Deed) → ((t : ℕ) → P t → Q t) → OfDeed P d → OfDeed Q d
+of_deed P Q None f h = tt
+of_deed P Q (Some (Makes t row)) f h = f t h
+of_deed P Q (Some (Strikes t)) f h = f t h
+
+-- a deed that passes the checks is one of a transaction that has not ended
+deed_runs : (a : Place) (db : Database) (v : Vector) → refusal db v ≡ None → OfDeed (λ t. db.ended t ≡ false) (deed_at a v)
+deed_runs a db (Put t o b n row) h = by_test (same_place a (place o b n))
+  where
+    by_test : (x : Bool) → OfDeed (λ u. db.ended u ≡ false) (cond x (Some (Makes t (Some row))) None)
+    by_test true = runs db t _ _ h
+    by_test false = tt
+deed_runs a db (Delete t o b n) h = by_test (same_place a (place o b n))
+  where
+    by_test : (x : Bool) → OfDeed (λ u. db.ended u ≡ false) (cond x (Some (Makes t None)) None)
+    by_test true = runs db t _ _ h
+    by_test false = tt
+deed_runs a db (Undo t o b n) h = by_test (same_place a (place o b n))
+  where
+    by_test : (x : Bool) → OfDeed (λ u. db.ended u ≡ false) (cond x (Some (Strikes t)) None)
+    by_test true = runs db t _ _ h
+    by_test false = tt
+deed_runs a db (Begin t) h = tt
+deed_runs a db (Commit t flag) h = tt
+deed_runs a db (Abort t) h = tt
+deed_runs a db (Create o e f columns) h = tt
+deed_runs a db (DropObject o) h = tt
+deed_runs a db (AddColumn o k) h = tt
+deed_runs a db (NoInMemory o) h = tt
+deed_runs a db EndThread h = tt
+
+-- a transaction has ended in the walk where it has an end
+pub ended_vector : (db : Database) (ends : ℕ → Option End) (pos scn : ℕ) (v : Vector) → ((t : ℕ) → db.ended t ≡ is_some (ends t))
+  → (t : ℕ) → (after db v).ended t ≡ is_some (earlier (ends t) (end_by t pos scn v))
+ended_vector db ends pos scn v h t = by_vector v
+  where
+    same : db.ended t ≡ is_some (earlier (ends t) None)
+    same = h t ∙ ap is_some (sym (earlier_none (ends t)))
+
+    by_end : (x : Option End) (u : ℕ) (e : End) → db.ended t ≡ is_some x → cond (t == u) true (db.ended t) ≡ is_some (earlier x (cond (u == t) (Some e) None))
+    by_end None u e k = by_tests (t == u) (u == t) refl refl
+      where
+        by_tests : (y z : Bool) → (t == u) ≡ y → (u == t) ≡ z → cond y true (db.ended t) ≡ is_some (earlier None (cond z (Some e) None))
+        by_tests true true m n = refl
+        by_tests true false m n = absurd (grind (arith, nat_tests))
+        by_tests false true m n = absurd (grind (arith, nat_tests))
+        by_tests false false m n = k
+    by_end (Some x) u e k = by_test (t == u)
+      where
+        by_test : (y : Bool) → cond y true (db.ended t) ≡ true
+        by_test true = refl
+        by_test false = k
+
+    by_vector : (w : Vector) → (after db w).ended t ≡ is_some (earlier (ends t) (end_by t pos scn w))
+    by_vector (Begin u) = same
+    by_vector (Put u o b n row) = same
+    by_vector (Delete u o b n) = same
+    by_vector (Undo u o b n) = same
+    by_vector (Commit u flag) = by_end (ends t) u _ (h t)
+    by_vector (Abort u) = by_end (ends t) u _ (h t)
+    by_vector (Create o e f columns) = same
+    by_vector (DropObject o) = same
+    by_vector (AddColumn o k) = same
+    by_vector (NoInMemory o) = same
+    by_vector EndThread = same
+
+-- an end that entries above an SCN make is above it
+end_by_above : (q t pos scn : ℕ) (v : Vector) → q < scn → is_late q (end_by t pos scn v) ≡ true
+end_by_above q t pos scn (Commit u flag) h = by_test (u == t)
+  where
+    by_test : (b : Bool) → is_late q (cond b (Some (record { pos = pos; scn = scn; committed = true })) None) ≡ true
+    by_test true = lt-ltb q scn h
+    by_test false = refl
+end_by_above q t pos scn (Abort u) h = by_test (u == t)
+  where
+    by_test : (b : Bool) → is_late q (cond b (Some (record { pos = pos; scn = scn; committed = false })) None) ≡ true
+    by_test true = lt-ltb q scn h
+    by_test false = refl
+end_by_above q t pos scn (Begin u) h = refl
+end_by_above q t pos scn (Put u o b n row) h = refl
+end_by_above q t pos scn (Delete u o b n) h = refl
+end_by_above q t pos scn (Undo u o b n) h = refl
+end_by_above q t pos scn (Create o e f columns) h = refl
+end_by_above q t pos scn (DropObject o) h = refl
+end_by_above q t pos scn (AddColumn o k) h = refl
+end_by_above q t pos scn (NoInMemory o) h = refl
+end_by_above q t pos scn EndThread h = refl
+
+late_earlier : (q : ℕ) (x y : Option End) → is_late q x ≡ true → is_late q y ≡ true → is_late q (earlier x y) ≡ true
+late_earlier q None y h k = k
+late_earlier q (Some e) y h k = h
+
+pub end_of_above : (q t : ℕ) (es : List LogEntry) → AllByRecursion (λ e. q < e.scn) es → is_late q (end_of es t) ≡ true
+end_of_above q t [] h = refl
+end_of_above q t (e ∷ es) h = late_earlier q (end_by t e.pos e.scn e.vector) (end_of es t) (end_by_above q t e.pos e.scn e.vector h.0) (end_of_above q t es h.1)
+
+pub late_counted : (q : ℕ) (x : Option End) → is_late q x ≡ true → counted q x ≡ None
+late_counted q None h = refl
+late_counted q (Some e) h = let k : nat_le e.scn q ≡ false = grind (arith, nat_tests) in by_test e.committed (nat_le e.scn q) k
+  where
+    by_test : (b c : Bool) → c ≡ false → cond (b && c) (Some e.pos) None ≡ None
+    by_test true c k = rw k refl
+    by_test false c k = refl
+
+-- The deeds of a sound log above an SCN are of transactions that have not ended at it.
+abbrev pub IsLateAt : Place → ℕ → (ℕ → Option End) → LogEntry → Type 0
+IsLateAt a q ends e = q < e.scn → OfDeed (λ t. is_late q (ends t) ≡ true) (deed_at a e.vector)
+
+pub late_walk : (a : Place) (q low high : ℕ) (db : Database) (ends : ℕ → Option End) (es : List LogEntry) → SoundFrom db es
+  → ((t : ℕ) → db.ended t ≡ is_some (ends t)) → ScnsWithin low high es → AllByRecursion (IsLateAt a q (ends_after ends es)) es
+late_walk a q low high db ends [] sound h scns = tt
+late_walk a q low high db ends (e ∷ es) sound h scns =
+    (first, late_walk a q e.scn high (after db e.vector) (λ t. earlier (ends t) (end_by t e.pos e.scn e.vector)) es sound.2 (ended_vector db ends e.pos e.scn e.vector h) scns.2)
+  where
+    first : q < e.scn → OfDeed (λ t. is_late q (ends_after ends (e ∷ es) t) ≡ true) (deed_at a e.vector)
+    first k = of_deed (λ t. db.ended t ≡ false) _ (deed_at a e.vector) late (deed_runs a db e.vector sound.1)
+      where
+        late : (t : ℕ) → db.ended t ≡ false → is_late q (ends_after ends (e ∷ es) t) ≡ true
+        late t r =
+            let none : ends t ≡ None = none_of (ends t) (sym (h t) ∙ r) in
+            ap (is_late q) (ends_after-is ends (e ∷ es) t ∙ ap (λ x. earlier x (end_of (e ∷ es) t)) none)
+            ∙ end_of_above q t (e ∷ es) (k, all_above q e.scn high es scns.2 k)
