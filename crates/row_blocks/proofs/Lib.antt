@@ -1,3 +1,4 @@
 pub mod Picked
 pub mod Walked
 pub mod Law
+pub mod Floor

@@ -18,7 +18,7 @@ pub later_none : (x : Option Candidate) → later x None ≡ x
 later_none None = refl
 later_none (Some x) = refl
 
-candidate_struck : (v : Version) (x : Option ℕ) → v.struck ≡ true → candidate v x ≡ None
+pub candidate_struck : (v : Version) (x : Option ℕ) → v.struck ≡ true → candidate v x ≡ None
 candidate_struck v None e = refl
 candidate_struck v (Some p) e = rw e refl
 
@@ -27,7 +27,7 @@ pub latest_by-push : (c : Commits) (vs : List Version) (v : Version) → c v.txn
 latest_by-push c [] v e = rw e refl
 latest_by-push c (w ∷ vs) v e = ap (λ y. later (candidate w (c w.txn)) y) (latest_by-push c vs v e)
 
-stands_parts : (t : ℕ) (v : Version) → stands t v ≡ true → (v.txn ≡ t) × (v.struck ≡ false)
+pub stands_parts : (t : ℕ) (v : Version) → stands t v ≡ true → (v.txn ≡ t) × (v.struck ≡ false)
 stands_parts t v h = (grind (arith, nat_tests), grind (arith, nat_tests))
 
 pub latest_by-strike : (c : Commits) (t : ℕ) (vs : List Version) → c t ≡ None → latest_by c (strike t vs) ≡ latest_by c vs
@@ -81,10 +81,10 @@ latest_below : (c : Commits) (pos : ℕ) (vs : List Version) → Below pos c →
 latest_below c pos [] h = tt
 latest_below c pos (v ∷ vs) h = later_below pos (candidate v (c v.txn)) (latest_by c vs) (candidate_below c pos v h) (latest_below c pos vs h)
 
-later_wins : (x y : Candidate) → x.commit < y.commit → later (Some x) (Some y) ≡ Some y
+pub later_wins : (x y : Candidate) → x.commit < y.commit → later (Some x) (Some y) ≡ Some y
 later_wins x y h = grind (arith, nat_tests)
 
-later_loses : (x y : Candidate) → y.commit < x.commit → later (Some x) (Some y) ≡ Some x
+pub later_loses : (x y : Candidate) → y.commit < x.commit → later (Some x) (Some y) ≡ Some x
 later_loses x y h = grind (arith, nat_tests)
 
 later_own : (x y : Candidate) → x.commit ≡ y.commit → x.pos < y.pos → later (Some x) (Some y) ≡ Some y
