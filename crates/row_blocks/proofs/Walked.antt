@@ -185,7 +185,7 @@ pub record IsTied (a : Place) (q : ℕ) (db : Database) (vs : List Version) (end
   pub rising : Rising 0 vs
   pub before : AllByRecursion (λ w. w.pos < pos) vs
 
-earlier_none : (x : Option End) → earlier x None ≡ x
+pub earlier_none : (x : Option End) → earlier x None ≡ x
 earlier_none None = refl
 earlier_none (Some e) = refl
 
@@ -573,7 +573,7 @@ ended_vector db ends pos scn v h t = by_vector v
     by_vector EndThread = same
 
 -- an end that entries above an SCN make is above it
-end_by_above : (q t pos scn : ℕ) (v : Vector) → q < scn → is_late q (end_by t pos scn v) ≡ true
+pub end_by_above : (q t pos scn : ℕ) (v : Vector) → q < scn → is_late q (end_by t pos scn v) ≡ true
 end_by_above q t pos scn (Commit u flag) h = by_test (u == t)
   where
     by_test : (b : Bool) → is_late q (cond b (Some (record { pos = pos; scn = scn; committed = true })) None) ≡ true

@@ -1,3 +1,4 @@
 pub mod Pick
 pub mod Versions
 pub mod Law
+pub mod Stands

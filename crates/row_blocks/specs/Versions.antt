@@ -80,8 +80,3 @@ end_of (e ∷ es) t = earlier (end_by t e.pos e.scn e.vector) (end_of es t)
 abbrev pub is_late : ℕ → Option End → Bool
 is_late q None = true
 is_late q (Some e) = nat_lt q e.scn
-
--- the entries of a shard below a position
-abbrev pub belongs_to : ℕ → Option ℕ → Bool
-belongs_to n None = false
-belongs_to n (Some shard) = shard == n
