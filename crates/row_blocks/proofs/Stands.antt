@@ -1,5 +1,5 @@
 -- Lemmas on what a shard stands for.
-use Rattle.std.proofs.Common.{◌≡◌, ℕ, ◌+◌, ◌<◌, ◌≤◌, ◌==◌, nat_lt, nat_le, Bool, true, false, not, cond, ◌&&◌, List, [], ◌∷◌, ◌++◌, filter, length, Option, Some, None, refl, sym, ap, ap₂, ◌∙◌, arith, append-nil, true≢false, subst, ◌⊎◌, inl, inr}
+use Rattle.std.proofs.Common.{◌≡◌, ℕ, ◌+◌, ◌<◌, ◌≤◌, ◌==◌, nat_lt, nat_le, Bool, true, false, not, cond, ◌&&◌, List, [], ◌∷◌, ◌++◌, filter, length, Option, Some, None, refl, sym, ap, ap₂, ◌∙◌, arith, append-nil, length-append, true≢false, subst, ◌⊎◌, inl, inr}
 use Rattle.std.specs.List.{AllByRecursion}
 use Rattle.std.specs.Option.{is_some}
 use Rattle.std.proofs.lemmas.List.Elements.{filter-append}
@@ -11,15 +11,16 @@ use Rattle.adg_base.specs.Shard.{shard_of_block, shard_of_txn, shard_of_vector}
 use Rattle.adg_base.specs.declared.vector.Vector.{Vector}
 use Rattle.adg_base.specs.declared.vector.Vector.TheVariants.{Begin, Put, Delete, Undo, Commit, Abort, Create, DropObject, AddColumn, NoInMemory, EndThread}
 use Rattle.adg_base.specs.declared.log.LogEntry.{LogEntry}
-use Rattle.adg_model.specs.Database.{place, same_place, rows_at}
+use Rattle.adg_model.specs.Database.{Rows, place, same_place, rows_at}
 use Rattle.adg_model.specs.Sound.{ScnsWithin}
+use Rattle.adg_model.proofs.RowLaws.{rows_stop_at_scn}
 use Rattle.adg_model.proofs.LogLaws.{each_weaker, each-append}
 use Rattle.row_blocks.specs.declared.version.Version.{Version}
 use Rattle.row_blocks.specs.declared.version.End.{End}
 use Rattle.row_blocks.specs.Pick.{Commits, counted, row_of, latest_by, picked_by}
 use Rattle.row_blocks.specs.Versions.{Deed, Makes, Strikes, deed_at, after_deed, versions_after, versions_of, end_by, earlier, end_of, is_late}
 use Rattle.row_blocks.specs.Law.{IsLog, commits_at}
-use Rattle.row_blocks.specs.Stands.{Kept, same_shard, is_own, own_below, HasApplied, IsSlot, is_open, StandsFor, HoldsAll, IsNext, after_entry, SameKept}
+use Rattle.row_blocks.specs.Stands.{Kept, same_shard, is_own, own_below, HasApplied, IsSlot, is_open, StandsFor, HoldsAll, IsNext, after_entry, none_kept, SameKept}
 use Rattle.row_blocks.proofs.Picked.{latest_by-same}
 use Rattle.row_blocks.proofs.Walked.{earlier_none, end_of-append, placed, Placed, OfDeed, of_deed, late_counted, end_of_above, end_by_above, all_above, Splits, splits}
 use Rattle.row_blocks.proofs.Law.{deed_keeps, versions_after-append, Keeps, each_and, each_filter, each_parts, placed_parts, late_deeds, picked_of_some}
@@ -220,3 +221,218 @@ pub stands_end : (log : List LogEntry) (frontier : ℕ) → IsLog log frontier �
   → shard_of_txn t ≡ kept.number → counted q (kept.ends t) ≡ commits_at log q t
 stands_end log frontier h kept floor q t s reached own =
     ap (counted q) (s.ends t) ∙ own_end kept.number kept.applied q t 1 frontier log own h.scns reached
+
+-- of a log, the entries of a shard below one position, once its next entry is there
+before_same : (n pos e_pos : ℕ) (es : List LogEntry) → pos ≤ e_pos → AllByRecursion (λ x. is_own n x ≡ true → x.pos < pos) es → own_below n (e_pos + 1) es ≡ own_below n pos es
+before_same n pos e_pos [] l h = refl
+before_same n pos e_pos (x ∷ es) l h = by_test (is_own n x) refl (before_same n pos e_pos es l h.1)
+  where
+    by_test : (b : Bool) → is_own n x ≡ b → own_below n (e_pos + 1) es ≡ own_below n pos es
+      → cond (b && nat_lt x.pos (e_pos + 1)) (x ∷ own_below n (e_pos + 1) es) (own_below n (e_pos + 1) es) ≡ cond (b && nat_lt x.pos pos) (x ∷ own_below n pos es) (own_below n pos es)
+    by_test false k ih = ih
+    by_test true k ih =
+        let j : x.pos < pos = h.0 k in
+        rw (lt-ltb x.pos pos j, lt-ltb x.pos (e_pos + 1) (omega arith)) (ap (λ l. x ∷ l) ih)
+
+pub own_none : (n pos : ℕ) (es : List LogEntry) → AllByRecursion (λ x. pos ≤ x.pos) es → own_below n pos es ≡ []
+own_none n pos [] h = refl
+own_none n pos (x ∷ es) h = rw (le-ltb x.pos pos h.0) (by_test (is_own n x) (own_none n pos es h.1))
+  where
+    by_test : (b : Bool) → own_below n pos es ≡ [] → cond (b && false) (x ∷ own_below n pos es) (own_below n pos es) ≡ []
+    by_test true ih = ih
+    by_test false ih = ih
+
+own_first : (n pos : ℕ) (e : LogEntry) (es : List LogEntry) → (is_own n e && nat_lt e.pos pos) ≡ true → own_below n pos (e ∷ es) ≡ e ∷ own_below n pos es
+own_first n pos e es h = rw h refl
+
+-- the place of an entry in a log whose positions count from 0
+pub position : (before rest : List LogEntry) (e : LogEntry) → Placed 0 (before ++ e ∷ rest) → e.pos ≡ length before
+position before rest e h = let p : e.pos ≡ 0 + length before = (placed_rest 0 before (e ∷ rest) h).0 in omega arith
+
+rest_above : (before rest : List LogEntry) (e : LogEntry) → Placed 0 (before ++ e ∷ rest) → AllByRecursion (λ x. e.pos + 1 ≤ x.pos) rest
+rest_above before rest e h =
+    let p = placed_rest 0 before (e ∷ rest) h in
+    let k : 0 + length before ≡ e.pos = sym p.0 in
+    placed_above (e.pos + 1) rest (subst (λ n. Placed (n + 1) rest) k p.1)
+
+pub own_next : (kept : Kept) (log : List LogEntry) (e : LogEntry) → Placed 0 log → IsNext kept log e → own_below kept.number (e.pos + 1) log ≡ own_below kept.number kept.applied log ++ e ∷ []
+own_next kept log e places s =
+    let n = kept.number in
+    let whole : Placed 0 (s.before ++ e ∷ s.rest) = subst (Placed 0) s.place places in
+    let above : AllByRecursion (λ x. e.pos + 1 ≤ x.pos) s.rest = rest_above s.before s.rest e whole in
+    let new : kept.applied ≤ e.pos = s.new in
+    let above_old : AllByRecursion (λ x. kept.applied ≤ x.pos) (e ∷ s.rest) = (new, each_weaker (λ x. e.pos + 1 ≤ x.pos) (λ x. kept.applied ≤ x.pos) (λ x l. let l' : e.pos + 1 ≤ x.pos = l in omega arith) s.rest above) in
+    let first : own_below n (e.pos + 1) (e ∷ s.rest) ≡ e ∷ [] =
+          own_first n (e.pos + 1) e s.rest (and_from (is_own n e) (nat_lt e.pos (e.pos + 1)) s.own (lt-ltb e.pos (e.pos + 1) (omega arith))) ∙ ap (λ l. e ∷ l) (own_none n (e.pos + 1) s.rest above) in
+    let left : own_below n (e.pos + 1) log ≡ own_below n kept.applied s.before ++ e ∷ [] =
+          ap (own_below n (e.pos + 1)) s.place ∙ filter-append (λ x. is_own n x && nat_lt x.pos (e.pos + 1)) s.before (e ∷ s.rest)
+          ∙ ap₂ (λ x y. x ++ y) (before_same n kept.applied e.pos s.before new s.done) first in
+    let right : own_below n kept.applied log ≡ own_below n kept.applied s.before =
+          ap (own_below n kept.applied) s.place ∙ filter-append (λ x. is_own n x && nat_lt x.pos kept.applied) s.before (e ∷ s.rest)
+          ∙ ap (λ l. own_below n kept.applied s.before ++ l) (own_none n kept.applied (e ∷ s.rest) above_old)
+          ∙ append-nil (own_below n kept.applied s.before) in
+    left ∙ ap (λ l. l ++ e ∷ []) (sym right)
+
+next_within : (kept : Kept) (log : List LogEntry) (e : LogEntry) → Placed 0 log → IsNext kept log e → e.pos + 1 ≤ length log
+next_within kept log e places s =
+    let p : e.pos ≡ length s.before = position s.before s.rest e (subst (Placed 0) s.place places) in
+    let l : length log ≡ length s.before + length (e ∷ s.rest) = ap length s.place ∙ length-append s.before (e ∷ s.rest) in
+    omega arith
+
+applied_more : (kept : Kept) (log : List LogEntry) (e : LogEntry) (q : ℕ) → kept.applied ≤ e.pos → HasApplied kept log q → HasApplied (after_entry kept e) log q
+applied_more kept log e q l h =
+    each_weaker (λ x. x.scn ≤ q → is_own kept.number x ≡ true → x.pos < kept.applied) _ (λ x f a b. let j : x.pos < kept.applied = f a b in omega arith) log h
+
+end_once : (t : ℕ) (e : LogEntry) → end_of (e ∷ []) t ≡ end_by t e.pos e.scn e.vector
+end_once t e = earlier_none (end_by t e.pos e.scn e.vector)
+
+ends_next : (kept : Kept) (log : List LogEntry) (e : LogEntry) → Placed 0 log → IsNext kept log e → (t : ℕ) → kept.ends t ≡ end_of (own_below kept.number kept.applied log) t
+  → earlier (kept.ends t) (end_by t e.pos e.scn e.vector) ≡ end_of (own_below kept.number (e.pos + 1) log) t
+ends_next kept log e places s t h =
+    ap₂ earlier h (sym (end_once t e)) ∙ sym (end_of-append (own_below kept.number kept.applied log) (e ∷ []) t)
+    ∙ ap (λ es. end_of es t) (sym (own_next kept log e places s))
+
+versions_next : (kept : Kept) (log : List LogEntry) (e : LogEntry) → Placed 0 log → IsNext kept log e → (a : Place)
+  → versions_of (own_below kept.number (e.pos + 1) log) a ≡ after_deed (versions_of (own_below kept.number kept.applied log) a) e.pos (deed_at a e.vector)
+versions_next kept log e places s a =
+    ap (λ es. versions_of es a) (own_next kept log e places s) ∙ versions_after-append a [] (own_below kept.number kept.applied log) (e ∷ [])
+
+-- what holds of each entry of a log holds of one of them
+pub each_at : (P : LogEntry → Type 0) (before rest : List LogEntry) (e : LogEntry) → AllByRecursion P (before ++ e ∷ rest) → P e
+each_at P [] rest e h = h.0
+each_at P (x ∷ before) rest e h = each_at P before rest e h.1
+
+-- a shard that stands for a log stands for it after its next entry
+pub stands_next : (log : List LogEntry) (frontier : ℕ) → IsLog log frontier → (kept : Kept) (floor : ℕ) (e : LogEntry) → StandsFor kept log floor → IsNext kept log e → StandsFor (after_entry kept e) log floor
+stands_next log frontier h kept floor e s next = record {
+  within = next_within kept log e places next;
+  reached = applied_more kept log e floor next.new s.reached;
+  ends = λ t. ends_next kept log e places next t (s.ends t);
+  open_versions = λ a slot.
+      open_deed floor (end_of log) (kept.versions a) (versions_of (own_below kept.number kept.applied log) a) e.pos (deed_at a e.vector) (late a) (s.open_versions a slot)
+      ∙ ap (filter (is_open floor log)) (sym (versions_next kept log e places next a));
+  at_floor = λ a slot own.
+      ap row_of (deed_keeps (commits_at log floor) (kept.versions a) e.pos (deed_at a e.vector) (of_deed _ _ (deed_at a e.vector) (λ t. late_counted floor (end_of log t)) (late a)))
+      ∙ s.at_floor a slot own;
+}
+  where
+    places : Placed 0 log
+    places = placed 0 log h.places
+
+    above : floor < e.scn
+    above = by_order (cases_lt floor e.scn)
+      where
+        by_order : ((floor < e.scn) ⊎ (e.scn ≤ floor)) → floor < e.scn
+        by_order (inl k) = k
+        by_order (inr k) =
+            let new : kept.applied ≤ e.pos = next.new in
+            let old : e.pos < kept.applied = each_at (λ x. x.scn ≤ floor → is_own kept.number x ≡ true → x.pos < kept.applied) next.before next.rest e
+                  (subst (AllByRecursion (λ x. x.scn ≤ floor → is_own kept.number x ≡ true → x.pos < kept.applied)) next.place s.reached) k next.own in
+            absurd (omega arith)
+
+    late : (a : Place) → OfDeed (λ t. is_late floor (end_of log t) ≡ true) (deed_at a e.vector)
+    late a =
+        each_at (λ x. floor < x.scn → OfDeed (λ t. is_late floor (end_of log t) ≡ true) (deed_at a x.vector)) next.before next.rest e
+          (subst (AllByRecursion (λ x. floor < x.scn → OfDeed (λ t. is_late floor (end_of log t) ≡ true) (deed_at a x.vector))) next.place (late_deeds log frontier h floor a)) above
+
+-- and one that holds all holds all then
+pub holds_next : (log : List LogEntry) (frontier : ℕ) → IsLog log frontier → (kept : Kept) (e : LogEntry) → HoldsAll kept log → IsNext kept log e → HoldsAll (after_entry kept e) log
+holds_next log frontier h kept e s next =
+    let places : Placed 0 log = placed 0 log h.places in
+    record {
+      within = next_within kept log e places next;
+      ends = λ t. ends_next kept log e places next t (s.ends t);
+      versions = λ a slot. ap (λ vs. after_deed vs e.pos (deed_at a e.vector)) (s.versions a slot) ∙ sym (versions_next kept log e places next a);
+    }
+
+own_nothing : (n : ℕ) (es : List LogEntry) → own_below n 0 es ≡ []
+own_nothing n es = own_none n 0 es (each_entry es)
+  where
+    each_entry : (xs : List LogEntry) → AllByRecursion (λ x. 0 ≤ x.pos) xs
+    each_entry [] = tt
+    each_entry (x ∷ xs) = (omega arith, each_entry xs)
+
+-- a shard that has applied nothing holds all of its entries below 0
+pub none_holds : (n : ℕ) (log : List LogEntry) → HoldsAll (none_kept n) log
+none_holds n log = record {
+  within = omega arith;
+  ends = λ t. ap (λ es. end_of es t) (sym (own_nothing n log));
+  versions = λ a slot. ap (λ es. versions_of es a) (sym (own_nothing n log));
+}
+
+-- no entry of a log is at SCN 0, so each shard has reached the floor 0
+pub zero_reached : (kept : Kept) (low high : ℕ) (log : List LogEntry) → 0 < low → ScnsWithin low high log → HasApplied kept log 0
+zero_reached kept low high [] l h = tt
+zero_reached kept low high (e ∷ es) l h =
+    let k : low ≤ e.scn = h.0 in
+    (λ m o. absurd (omega arith), zero_reached kept e.scn high es (omega arith) h.2)
+
+pub none_stands_for : (n : ℕ) (log : List LogEntry) (frontier : ℕ) → IsLog log frontier → StandsFor (none_kept n) log 0
+none_stands_for n log frontier h = holds_stands log frontier h (none_kept n) 0 (none_holds n log) (zero_reached (none_kept n) 1 frontier log (omega arith) h.scns)
+
+-- shards that keep the same stand for the same
+pub stands_same : (x y : Kept) (log : List LogEntry) (floor : ℕ) → SameKept x y → StandsFor y log floor → StandsFor x log floor
+stands_same x y log floor e s = record {
+  within = subst (λ n. n ≤ length log) (sym e.applied) s.within;
+  reached = subst (λ n. AllByRecursion (λ z. z.scn ≤ floor → is_own x.number z ≡ true → z.pos < n) log) (sym e.applied)
+    (subst (λ n. AllByRecursion (λ z. z.scn ≤ floor → is_own n z ≡ true → z.pos < y.applied) log) (sym e.number) s.reached);
+  ends = λ t. e.ends t ∙ s.ends t ∙ ap₂ (λ n p. end_of (own_below n p log) t) (sym e.number) (sym e.applied);
+  open_versions = λ a slot. ap (filter (is_open floor log)) (e.versions a slot) ∙ s.open_versions a slot
+    ∙ ap₂ (λ n p. filter (is_open floor log) (versions_of (own_below n p log) a)) (sym e.number) (sym e.applied);
+  at_floor = λ a slot own. ap (picked_by (commits_at log floor)) (e.versions a slot) ∙ s.at_floor a slot (own ∙ e.number);
+}
+
+pub holds_same : (x y : Kept) (log : List LogEntry) → SameKept x y → HoldsAll y log → HoldsAll x log
+holds_same x y log e s = record {
+  within = subst (λ n. n ≤ length log) (sym e.applied) s.within;
+  ends = λ t. e.ends t ∙ s.ends t ∙ ap₂ (λ n p. end_of (own_below n p log) t) (sym e.number) (sym e.applied);
+  versions = λ a slot. e.versions a slot ∙ s.versions a slot ∙ ap₂ (λ n p. versions_of (own_below n p log) a) (sym e.number) (sym e.applied);
+}
+
+-- THE LOG GROWS: entries that continue it, all above the floor
+own_longer : (n pos : ℕ) (log more : List LogEntry) → Placed 0 (log ++ more) → pos ≤ length log → own_below n pos (log ++ more) ≡ own_below n pos log
+own_longer n pos log more places l =
+    filter-append (λ x. is_own n x && nat_lt x.pos pos) log more
+    ∙ ap (λ es. own_below n pos log ++ es)
+        (own_none n pos more (each_weaker (λ x. 0 + length log ≤ x.pos) (λ x. pos ≤ x.pos) (λ x k. let k' : 0 + length log ≤ x.pos = k in omega arith) more (placed_above (0 + length log) more (placed_rest 0 log more places))))
+    ∙ append-nil (own_below n pos log)
+
+late_longer : (floor t : ℕ) (log more : List LogEntry) → AllByRecursion (λ e. floor < e.scn) more → is_late floor (end_of (log ++ more) t) ≡ is_late floor (end_of log t)
+late_longer floor t log more h = ap (is_late floor) (end_of-append log more t) ∙ by_end (end_of log t)
+  where
+    by_end : (x : Option End) → is_late floor (earlier x (end_of more t)) ≡ is_late floor x
+    by_end None = end_of_above floor t more h
+    by_end (Some e) = refl
+
+pub commits_longer : (floor t : ℕ) (log more : List LogEntry) → AllByRecursion (λ e. floor < e.scn) more → commits_at (log ++ more) floor t ≡ commits_at log floor t
+commits_longer floor t log more h = ap (counted floor) (end_of-append log more t) ∙ by_end (end_of log t)
+  where
+    by_end : (x : Option End) → counted floor (earlier x (end_of more t)) ≡ counted floor x
+    by_end None = late_counted floor (end_of more t) (end_of_above floor t more h)
+    by_end (Some e) = refl
+
+open_longer : (floor : ℕ) (log more : List LogEntry) (vs : List Version) → AllByRecursion (λ e. floor < e.scn) more → filter (is_open floor (log ++ more)) vs ≡ filter (is_open floor log) vs
+open_longer floor log more [] h = refl
+open_longer floor log more (v ∷ vs) h = rw (late_longer floor v.txn log more h) (ap (λ l. cond (not v.struck && is_late floor (end_of log v.txn)) (v ∷ l) l) (open_longer floor log more vs h))
+
+pub stands_longer : (kept : Kept) (log more : List LogEntry) (floor : ℕ) → StandsFor kept log floor → Placed 0 (log ++ more) → AllByRecursion (λ e. floor < e.scn) more → StandsFor kept (log ++ more) floor
+stands_longer kept log more floor s places above = record {
+  within = let l : kept.applied ≤ length log = s.within in let e : length (log ++ more) ≡ length log + length more = length-append log more in omega arith;
+  reached = each-append _ log more s.reached (each_weaker (λ e. floor < e.scn) _ (λ e k m o. let k' : floor < e.scn = k in absurd (omega arith)) more above);
+  ends = λ t. s.ends t ∙ ap (λ es. end_of es t) (sym (own_longer kept.number kept.applied log more places s.within));
+  open_versions = λ a slot.
+      open_longer floor log more (kept.versions a) above ∙ s.open_versions a slot
+      ∙ sym (open_longer floor log more (versions_of (own_below kept.number kept.applied log) a) above)
+      ∙ ap (λ es. filter (is_open floor (log ++ more)) (versions_of es a)) (sym (own_longer kept.number kept.applied log more places s.within));
+  at_floor = λ a slot own.
+      ap row_of (latest_by-same (commits_at (log ++ more) floor) (commits_at log floor) (λ t. commits_longer floor t log more above) (kept.versions a))
+      ∙ s.at_floor a slot own
+      ∙ sym (ap (λ (f : Rows). f a) (rows_stop_at_scn log more floor above).0);
+}
+
+pub holds_longer : (kept : Kept) (log more : List LogEntry) → HoldsAll kept log → Placed 0 (log ++ more) → HoldsAll kept (log ++ more)
+holds_longer kept log more s places = record {
+  within = let l : kept.applied ≤ length log = s.within in let e : length (log ++ more) ≡ length log + length more = length-append log more in omega arith;
+  ends = λ t. s.ends t ∙ ap (λ es. end_of es t) (sym (own_longer kept.number kept.applied log more places s.within));
+  versions = λ a slot. s.versions a slot ∙ ap (λ es. versions_of es a) (sym (own_longer kept.number kept.applied log more places s.within));
+}

@@ -85,3 +85,7 @@ pub record SameKept (x y : Kept) : Type 0 where
   pub applied : x.applied ≡ y.applied
   pub versions : (a : Place) → IsSlot a → x.versions a ≡ y.versions a
   pub ends : (t : ℕ) → x.ends t ≡ y.ends t
+
+-- a shard that has applied nothing
+abbrev pub none_kept : ℕ → Kept
+none_kept n = record { number = n; applied = 0; versions = λ a. []; ends = λ t. None }
