@@ -1,5 +1,5 @@
 pub mod Picked
 pub mod Walked
-pub mod Law
+pub mod PickedLaw
 pub mod Floor
 pub mod Stands

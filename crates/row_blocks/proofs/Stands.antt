@@ -23,7 +23,7 @@ use Rattle.row_blocks.specs.Law.{IsLog, commits_at}
 use Rattle.row_blocks.specs.Stands.{Kept, same_shard, is_own, own_below, HasApplied, IsSlot, is_open, StandsFor, HoldsAll, IsNext, after_entry, none_kept, SameKept}
 use Rattle.row_blocks.proofs.Picked.{latest_by-same}
 use Rattle.row_blocks.proofs.Walked.{earlier_none, end_of-append, placed, Placed, OfDeed, of_deed, late_counted, end_of_above, end_by_above, all_above, Splits, splits}
-use Rattle.row_blocks.proofs.Law.{deed_keeps, versions_after-append, Keeps, each_and, each_filter, each_parts, placed_parts, late_deeds, picked_of_some}
+use Rattle.row_blocks.proofs.PickedLaw.{deed_keeps, versions_after-append, Keeps, each_and, each_filter, each_parts, placed_parts, late_deeds, picked_of_some}
 use Rattle.row_blocks.proofs.Floor.{picked_through, open_deed, IsParted}
 
 -- an entry that does something at an address of a shard is one of its own

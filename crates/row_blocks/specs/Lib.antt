@@ -2,3 +2,4 @@ pub mod Pick
 pub mod Versions
 pub mod Law
 pub mod Stands
+pub mod Best

@@ -2,4 +2,6 @@
 //! transaction, spread over 64 shards; and the pick of the row that is committed at an SCN.
 #![tactic(auto)]
 
+pub mod law;
+pub mod pick;
 pub mod version;

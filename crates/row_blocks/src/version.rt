@@ -1,5 +1,5 @@
 use adg_base::number::{Pos, Scn, Txn};
-use adg_base::value::Row;
+use adg_base::row::Row;
 
 /// What one change of a transaction made of the row at an address: the row that it set there, or
 /// None where it removed the row. A change that was taken back is struck.
