@@ -1,5 +1,5 @@
 -- Lemmas on the latest of some versions.
-use Rattle.std.proofs.Common.{◌≡◌, ℕ, ◌+◌, ◌<◌, ◌≤◌, ◌==◌, nat_lt, nat_le, Bool, true, false, not, cond, ◌&&◌, List, [], ◌∷◌, ◌++◌, map, filter, Option, Some, None, refl, sym, ap, ap₂, ◌∙◌, arith, append-nil}
+use Rattle.std.proofs.Common.{◌≡◌, length, ℕ, ◌+◌, ◌<◌, ◌≤◌, ◌==◌, nat_lt, nat_le, Bool, true, false, not, cond, ◌&&◌, List, [], ◌∷◌, ◌++◌, map, filter, Option, Some, None, refl, sym, ap, ap₂, ◌∙◌, arith, append-nil}
 use Rattle.std.specs.List.{list_any, AllByRecursion}
 use Rattle.std.proofs.lemmas.Bool.{eqb-true}
 use Rattle.std.proofs.lemmas.Bool.Decides.{nat_tests}
@@ -153,3 +153,39 @@ first_or (r ∷ rs) row = r
 pub won_row : (pos low : ℕ) (rs : List (Option (List Value))) (x y : Option Candidate) → Won pos low rs x y → row_of y ≡ first_or rs (row_of x)
 won_row pos low [] x y w = ap row_of w
 won_row pos low (r ∷ rs) x y w = ap row_of w.2
+
+-- the later of three, in either order
+pub later_assoc : (x y z : Option Candidate) → later (later x y) z ≡ later x (later y z)
+later_assoc None y z = refl
+later_assoc (Some x) None z = refl
+later_assoc (Some x) (Some y) None = later_none (later (Some x) (Some y))
+later_assoc (Some x) (Some y) (Some z) = by_tests (is_upto x y) (is_upto y z) refl refl
+  where
+    by_tests : (b c : Bool) → is_upto x y ≡ b → is_upto y z ≡ c → later (cond b (Some y) (Some x)) (Some z) ≡ later (Some x) (cond c (Some z) (Some y))
+    by_tests true true k m = let h : is_upto x z ≡ true = grind (arith, nat_tests) in rw (m, h) refl
+    by_tests true false k m = rw (m, k) refl
+    by_tests false true k m = refl
+    by_tests false false k m = let h : is_upto x z ≡ false = grind (arith, nat_tests) in rw (h, k) refl
+
+-- no versions, or no ends, no candidates
+no_versions : (q : ℕ) (versions : List Version) (ends : List (Option End)) → length versions ≡ 0 → candidates q versions ends ≡ []
+no_versions q [] ends h = refl
+no_versions q (v ∷ vs) ends h = absurd (omega arith)
+
+no_ends : (q : ℕ) (versions : List Version) (ends : List (Option End)) → length ends ≡ 0 → candidates q versions ends ≡ []
+no_ends q [] ends h = refl
+no_ends q (v ∷ vs) [] h = refl
+no_ends q (v ∷ vs) (e ∷ es) h = absurd (omega arith)
+
+-- the best of a loop that has come to the end of one of the lists
+best_is_latest : (q : ℕ) (versions : List Version) (ends : List (Option End)) (best all : Option Candidate) → later best (latest (candidates q versions ends)) ≡ all
+  → candidates q versions ends ≡ [] → best ≡ all
+best_is_latest q versions ends best all e h = sym (later_none best) ∙ ap (λ cs. later best (latest cs)) (sym h) ∙ e
+
+pub best_is_latest_versions : (q : ℕ) (versions : List Version) (ends : List (Option End)) (best all : Option Candidate) → later best (latest (candidates q versions ends)) ≡ all
+  → length versions ≡ 0 → best ≡ all
+best_is_latest_versions q versions ends best all e h = best_is_latest q versions ends best all e (no_versions q versions ends h)
+
+pub best_is_latest_ends : (q : ℕ) (versions : List Version) (ends : List (Option End)) (best all : Option Candidate) → later best (latest (candidates q versions ends)) ≡ all
+  → length ends ≡ 0 → best ≡ all
+best_is_latest_ends q versions ends best all e h = best_is_latest q versions ends best all e (no_ends q versions ends h)

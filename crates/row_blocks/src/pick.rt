@@ -34,7 +34,7 @@ fn with_version<'a>(
     end: Option<End>,
     q: Scn,
 ) -> Option<Best<'a>>
-    ensures { shown result ≡ later (shown best) (candidate version.now (counted q end)) }
+    ensures { shown result ≡ later (shown best.entry) (candidate version.now (counted q end)) }
 {
     let Some(commit) = commit_upto(end, q) else {
         return best;
@@ -52,6 +52,7 @@ fn with_version<'a>(
 /// The row of the latest version that counts at `q`: the one whose transaction committed last, and
 /// of that transaction the last that is not struck. `ends[i]` is the end of the transaction of
 /// `versions[i]`. A step is counted where there is a row.
+#[tactic(auto, using(crate::proofs::Picked::later_assoc, crate::proofs::Picked::later_none))]
 pub fn pick<'a, L: Ledger>(
     versions: &'a [Version],
     ends: &[Option<End>],
@@ -71,7 +72,7 @@ pub fn pick<'a, L: Ledger>(
 
 /// The row of the best, where it has one, at the cost of a step.
 fn told<'a, L: Ledger>(best: Option<Best<'a>>, steps: &mut Steps<L>) -> Option<&'a Row>
-    ensures row { option_copied result ≡ row_of (shown best) }
+    ensures row { option_copied result ≡ row_of (shown best.entry) }
     ensures cost { steps.new ≡ steps.old + (if is_some result then 1 else 0) }
 {
     let row = best?.row.as_ref()?;
