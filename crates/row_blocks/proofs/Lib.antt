@@ -3,3 +3,4 @@ pub mod Walked
 pub mod PickedLaw
 pub mod Floor
 pub mod Stands
+pub mod Strikes

@@ -3,3 +3,5 @@ pub mod Versions
 pub mod Law
 pub mod Stands
 pub mod Best
+pub mod Block
+pub mod Shard

@@ -2,6 +2,8 @@
 //! transaction, spread over 64 shards; and the pick of the row that is committed at an SCN.
 #![tactic(auto)]
 
+pub mod block;
 pub mod law;
 pub mod pick;
+pub mod shard;
 pub mod version;
