@@ -4,3 +4,4 @@ pub mod PickedLaw
 pub mod Floor
 pub mod Stands
 pub mod Strikes
+pub mod Slots

@@ -1,6 +1,6 @@
-ghost use Rattle.std.specs.Prelude.{◌≡◌, ℕ, ◌<◌, [], ◌∷◌, ◌++◌, IfOk, OnOk, OnErr, slice_index_or, slice_set};
+ghost use Rattle.std.specs.Prelude.{◌≡◌, ℕ, ◌<◌, [], ◌∷◌, ◌++◌, IfOk, OnOk, OnErr, slice_index_or};
 ghost use Rattle.row_blocks.specs.Versions.{strike};
-ghost use Rattle.row_blocks.specs.Block.{IsLatest};
+ghost use Rattle.row_blocks.specs.Block.{IsLatest, SetsSlot};
 
 use crate::version::Version;
 use adg_base::memory::Memory;
@@ -111,7 +111,7 @@ impl Block {
     /// Adds a version at a slot.
     pub fn push(&mut self, slot: u8, version: Version) -> Result<(), Memory>
         requires { slot < 64 }
-        ensures ok { OnOk result (self.new ≡ slice_set self.old slot (slice_index_or self.old slot [] ++ version ∷ [])) }
+        ensures ok { OnOk result (SetsSlot self.old self.new slot (slice_index_or self.old slot [] ++ version ∷ [])) }
         ensures err { OnErr result (self.new ≡ self.old) }
     {
         self.slots[slot as usize].push(version)
@@ -120,7 +120,7 @@ impl Block {
     /// Strikes the latest version of a transaction at a slot that is not struck.
     pub fn strike(&mut self, slot: u8, txn: Txn)
         requires { slot < 64 }
-        ensures { self.new ≡ slice_set self.old slot (strike txn (slice_index_or self.old slot [])) }
+        ensures { SetsSlot self.old self.new slot (strike txn (slice_index_or self.old slot [])) }
     {
         self.slots[slot as usize].strike(txn);
     }

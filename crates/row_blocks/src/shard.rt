@@ -1,4 +1,4 @@
-ghost use Rattle.std.specs.Prelude.{◌≡◌, ℕ, ◌+◌, ◌<◌, ◌^◌, [], Some, None, nat_lt, if◌then◌else◌, IfOk, OnOk, OnErr, option_copied};
+ghost use Rattle.std.specs.Prelude.{◌≡◌, ℕ, ◌+◌, ◌<◌, ◌^◌, [], Some, None, false, nat_lt, if◌then◌else◌, IfOk, OnOk, OnErr, option_copied};
 ghost use Rattle.adg_base.specs.Shard.{shard_of_vector};
 ghost use Rattle.adg_model.specs.Database.{place};
 ghost use Rattle.row_blocks.specs.Versions.{Makes, Strikes, earlier};
