@@ -3,12 +3,15 @@ use Rattle.std.proofs.Common.{◌≡◌, ℕ, zero, suc, ◌+◌, ◌<◌, ◌�
 use Rattle.std.proofs.lemmas.Bool.{eqb-true}
 use Rattle.std.proofs.lemmas.Bool.Decides.{nat_tests}
 use Rattle.adg_base.specs.Address.{Place}
+use Rattle.adg_base.specs.declared.vector.Vector.TheVariants.{Undo}
+use Rattle.adg_base.specs.declared.log.LogEntry.{LogEntry}
 use Rattle.adg_model.specs.Database.{place, same_place}
 use Rattle.row_blocks.specs.declared.version.Version.{Version}
-use Rattle.row_blocks.specs.Versions.{Deed, after_deed}
+use Rattle.row_blocks.specs.Versions.{Deed, Strikes, deed_at, after_deed, end_by, earlier}
 use Rattle.row_blocks.specs.Block.{SetsSlot}
 use Rattle.row_blocks.specs.Shard.{same_block, at_slot, DoesAt}
-use Rattle.row_blocks.specs.Stands.{Kept}
+use Rattle.row_blocks.specs.Stands.{Kept, SameKept, with_entry}
+use Rattle.row_blocks.proofs.Walked.{earlier_none}
 
 -- blocks by their key, before and after a deed at one slot of one block
 abbrev pub Blocks : Type 0
@@ -87,3 +90,12 @@ does_at old new o b s pos d before after slots number applied ends was is sets a
 -- a version that is not struck
 pub not_struck : (v : Version) → v.struck ≡ false → ◌≡◌ {A = Version} v (record { pos = v.pos; txn = v.txn; row = v.row; struck = false })
 not_struck v h = ap (λ b. record v { struck = b }) h
+
+-- a strike is what an Undo makes of a shard
+pub strikes_entry : (old new : Kept) (e : LogEntry) (t o b s : ℕ) → e.vector ≡ Undo t o b s → DoesAt old new (place o b s) e.pos (Strikes t) → SameKept new (with_entry old e)
+strikes_entry old new e t o b s is h = record {
+  number = h.number;
+  applied = h.applied;
+  versions = λ a k. h.versions a k ∙ ap (λ v. after_deed (old.versions a) e.pos (deed_at a v)) (sym is);
+  ends = λ u. h.ends u ∙ sym (earlier_none (old.ends u)) ∙ ap (λ v. earlier (old.ends u) (end_by u e.pos e.scn v)) (sym is);
+}

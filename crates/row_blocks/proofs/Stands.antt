@@ -20,7 +20,7 @@ use Rattle.row_blocks.specs.declared.version.End.{End}
 use Rattle.row_blocks.specs.Pick.{Commits, counted, row_of, latest_by, picked_by}
 use Rattle.row_blocks.specs.Versions.{Deed, Makes, Strikes, deed_at, after_deed, versions_after, versions_of, end_by, earlier, end_of, is_late}
 use Rattle.row_blocks.specs.Law.{IsLog, commits_at}
-use Rattle.row_blocks.specs.Stands.{Kept, same_shard, is_own, own_below, HasApplied, IsSlot, is_open, StandsFor, HoldsAll, IsNext, after_entry, none_kept, SameKept}
+use Rattle.row_blocks.specs.Stands.{Kept, same_shard, is_own, own_below, HasApplied, IsSlot, is_open, StandsFor, HoldsAll, IsNext, after_entry, none_kept, SameKept, StandsForMore}
 use Rattle.row_blocks.proofs.Picked.{latest_by-same}
 use Rattle.row_blocks.proofs.Walked.{earlier_none, end_of-append, placed, Placed, OfDeed, of_deed, late_counted, end_of_above, end_by_above, all_above, Splits, splits}
 use Rattle.row_blocks.proofs.PickedLaw.{deed_keeps, versions_after-append, Keeps, each_and, each_filter, each_parts, placed_parts, late_deeds, picked_of_some}
@@ -436,3 +436,9 @@ holds_longer kept log more s places = record {
   ends = λ t. s.ends t ∙ ap (λ es. end_of es t) (sym (own_longer kept.number kept.applied log more places s.within));
   versions = λ a slot. s.versions a slot ∙ ap (λ es. versions_of es a) (sym (own_longer kept.number kept.applied log more places s.within));
 }
+
+-- what was applied is one entry more
+pub stands_for_more : (old new : Kept) (e : LogEntry) → SameKept new (after_entry old e) → StandsForMore old e new
+stands_for_more old new e same log frontier floor h next =
+    (λ s. stands_same new (after_entry old e) log floor same (stands_next log frontier h old floor e s next),
+     λ s. holds_same new (after_entry old e) log same (holds_next log frontier h old e s next))

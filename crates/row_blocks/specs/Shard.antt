@@ -1,5 +1,5 @@
 -- What a shard shows of what it keeps, and what its calls make of it.
-use Rattle.std.specs.Prelude.{◌≡◌, ℕ, ◌<◌, Bool, ◌&&◌, if◌then◌else◌, nat_eq, List, [], slice_index_or, Option, Some, None}
+use Rattle.std.specs.Prelude.{◌≡◌, ℕ, ◌<◌, Bool, ◌==◌, ◌&&◌, if◌then◌else◌, nat_eq, List, [], slice_index_or, Option, Some, None}
 use Rattle.std.specs.HashMap as hash
 use Rattle.adg_base.specs.Address.{Place}
 use Rattle.adg_base.specs.declared.log.LogEntry.{LogEntry}
@@ -7,7 +7,7 @@ use Rattle.adg_model.specs.Database.{same_place}
 use Rattle.row_blocks.specs.declared.version.Version.{Version}
 use Rattle.row_blocks.specs.declared.version.End.{End}
 use Rattle.row_blocks.specs.declared.shard.Shard.{Shard}
-use Rattle.row_blocks.specs.Versions.{Deed, after_deed}
+use Rattle.row_blocks.specs.Versions.{Deed, after_deed, earlier}
 use Rattle.row_blocks.specs.Stands.{Kept, IsSlot, SameKept}
 
 -- whether two blocks, each an object and its number there, are one
@@ -33,3 +33,10 @@ pub record DoesAt (old new : Kept) (b : Place) (pos : ℕ) (d : Deed) : Type 0 w
   pub applied : new.applied ≡ old.applied
   pub versions : (a : Place) → IsSlot a → new.versions a ≡ after_deed (old.versions a) pos (if same_place a b then Some d else None)
   pub ends : (t : ℕ) → new.ends t ≡ old.ends t
+
+-- a transaction ended, unless it had, and nothing else
+pub record EndsAt (old new : Kept) (txn : ℕ) (end : End) : Type 0 where
+  pub number : new.number ≡ old.number
+  pub applied : new.applied ≡ old.applied
+  pub versions : (a : Place) → IsSlot a → new.versions a ≡ old.versions a
+  pub ends : (t : ℕ) → new.ends t ≡ earlier (old.ends t) (if txn == t then Some end else None)

@@ -70,14 +70,18 @@ pub record IsNext (kept : Kept) (log : List LogEntry) (e : LogEntry) : Type 0 wh
   pub done : AllByRecursion (λ x. is_own kept.number x ≡ true → x.pos < kept.applied) before
   pub new : kept.applied ≤ e.pos
 
--- what a shard keeps after one of its entries
-abbrev pub after_entry : Kept → LogEntry → Kept
-after_entry kept e = record {
+-- what a shard keeps after one of its entries: what the entry makes of its versions and its ends,
+abbrev pub with_entry : Kept → LogEntry → Kept
+with_entry kept e = record {
   number = kept.number;
-  applied = e.pos + 1;
+  applied = kept.applied;
   versions = λ a. after_deed (kept.versions a) e.pos (deed_at a e.vector);
   ends = λ t. earlier (kept.ends t) (end_by t e.pos e.scn e.vector);
 }
+
+-- and a position behind it
+abbrev pub after_entry : Kept → LogEntry → Kept
+after_entry kept e = record (with_entry kept e) { applied = e.pos + 1 }
 
 -- the same in each part
 pub record SameKept (x y : Kept) : Type 0 where
@@ -89,3 +93,10 @@ pub record SameKept (x y : Kept) : Type 0 where
 -- a shard that has applied nothing
 abbrev pub none_kept : ℕ → Kept
 none_kept n = record { number = n; applied = 0; versions = λ a. []; ends = λ t. None }
+
+-- one entry of a shard more: if it stood for a log and the entry is its next one there, it stands for the log
+-- still, and if it held all it still does
+abbrev pub StandsForMore : Kept → LogEntry → Kept → Type 0
+StandsForMore old e new =
+    (log : List LogEntry) (frontier floor : ℕ) → IsLog log frontier → IsNext old log e
+    → (StandsFor old log floor → StandsFor new log floor) × (HoldsAll old log → HoldsAll new log)

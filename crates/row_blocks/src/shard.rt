@@ -1,9 +1,9 @@
-ghost use Rattle.std.specs.Prelude.{◌≡◌, ℕ, ◌+◌, ◌<◌, ◌^◌, [], Some, None, false, nat_lt, if◌then◌else◌, IfOk, OnOk, OnErr, option_copied};
+ghost use Rattle.std.specs.Prelude.{◌≡◌, ℕ, ◌+◌, ◌<◌, ◌^◌, Ok, Some, false, nat_lt, if◌then◌else◌, IfOk, OnOk, OnErr, option_copied};
 ghost use Rattle.adg_base.specs.Shard.{shard_of_vector};
 ghost use Rattle.adg_model.specs.Database.{place};
-ghost use Rattle.row_blocks.specs.Versions.{Makes, Strikes, earlier};
-ghost use Rattle.row_blocks.specs.Stands.{SameKept, after_entry, none_kept};
-ghost use Rattle.row_blocks.specs.Shard.{shown, DoesAt, at_slot, same_block};
+ghost use Rattle.row_blocks.specs.Versions.{Makes, Strikes};
+ghost use Rattle.row_blocks.specs.Stands.{SameKept, StandsForMore, with_entry, after_entry, none_kept};
+ghost use Rattle.row_blocks.specs.Shard.{shown, DoesAt, EndsAt, at_slot};
 
 use crate::block::{Block, SLOTS};
 use crate::version::{End, Version};
@@ -11,8 +11,7 @@ use adg_base::address::Addr;
 use adg_base::list::Duplicate;
 use adg_base::log::LogEntry;
 use adg_base::memory::Memory;
-use adg_base::number::{Obj, Pos, Txn};
-use adg_base::row::Row;
+use adg_base::number::{Obj, Pos, Scn, Txn};
 use adg_base::vector::Vector;
 use std::alloc::Global;
 use std::collections::HashMap;
@@ -87,6 +86,92 @@ impl Shard {
         ensures { result ≡ (shown self.now).ends txn }
     {
         self.ends.get(&txn.get()).copied()
+    }
+
+    /// Applies an entry of this shard, at a position below the last of its type: there the
+    /// position applied stands still.
+    pub fn apply(&mut self, entry: &LogEntry) -> Result<Applied, Memory>
+        requires { shard_of_vector entry.now.vector ≡ Some self.old.number }
+        ensures answer { IfOk result (λ applied. applied ≡ (if nat_lt entry.now.pos self.old.applied then Applied.Already else Applied.Done)) }
+        ensures already { result ≡ Ok Applied.Already → self.new ≡ self.old }
+        ensures done { result ≡ Ok Applied.Done → entry.now.pos + 1 < 2 ^ 64 → SameKept (shown self.new) (after_entry (shown self.old) entry.now) }
+        ensures stands { result ≡ Ok Applied.Done → entry.now.pos + 1 < 2 ^ 64 → StandsForMore (shown self.old) entry.now (shown self.new) }
+        ensures err { OnErr result (SameKept (shown self.new) (shown self.old)) }
+    {
+        if entry.pos < self.applied {
+            return Ok(Applied::Already);
+        }
+        self.play(entry)?;
+        self.applied = Pos::new(entry.pos.get().saturating_add(1));
+        Ok(Applied::Done)
+    }
+
+    /// What an entry makes of the versions and the ends.
+    fn play(&mut self, entry: &LogEntry) -> Result<(), Memory>
+        ensures ok { OnOk result (SameKept (shown self.new) (with_entry (shown self.old) entry.now)) }
+        ensures err { OnErr result (SameKept (shown self.new) (shown self.old)) }
+    {
+        match &entry.vector {
+            Vector::Put {
+                txn,
+                obj,
+                block,
+                slot,
+                row,
+            } => {
+                let version = Version {
+                    pos: entry.pos,
+                    txn: *txn,
+                    row: Some(row.copy(self.alloc)?),
+                    struck: false,
+                };
+                self.make(*obj, *block, *slot, version)
+            }
+            Vector::Delete {
+                txn,
+                obj,
+                block,
+                slot,
+            } => {
+                let version = Version {
+                    pos: entry.pos,
+                    txn: *txn,
+                    row: None,
+                    struck: false,
+                };
+                self.make(*obj, *block, *slot, version)
+            }
+            Vector::Undo {
+                txn,
+                obj,
+                block,
+                slot,
+            } => {
+                self.strike(*obj, *block, *slot, *txn);
+                Ok(())
+            }
+            Vector::Commit { txn, .. } => self.end(*txn, entry.pos, entry.scn, true),
+            Vector::Abort { txn } => self.end(*txn, entry.pos, entry.scn, false),
+            Vector::Begin { .. }
+            | Vector::Create { .. }
+            | Vector::DropObject { .. }
+            | Vector::AddColumn { .. }
+            | Vector::NoInMemory { .. }
+            | Vector::EndThread => Ok(()),
+        }
+    }
+
+    /// Keeps the end of a transaction, unless there is one.
+    fn end(&mut self, txn: Txn, pos: Pos, scn: Scn, committed: bool) -> Result<(), Memory>
+        ensures ok { OnOk result (EndsAt (shown self.old) (shown self.new) txn (record { pos = pos; scn = scn; committed = committed })) }
+        ensures err { OnErr result (SameKept (shown self.new) (shown self.old)) }
+    {
+        self.ends.entry(txn.get())?.or_insert(End {
+            pos,
+            scn,
+            committed,
+        });
+        Ok(())
     }
 
     /// Adds a version at a slot of a block. A slot of 64 or more is no address, and has none.
