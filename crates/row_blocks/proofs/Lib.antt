@@ -5,3 +5,4 @@ pub mod Floor
 pub mod Stands
 pub mod Strikes
 pub mod Slots
+pub mod Together

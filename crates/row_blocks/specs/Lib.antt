@@ -5,3 +5,4 @@ pub mod Stands
 pub mod Best
 pub mod Block
 pub mod Shard
+pub mod Shards

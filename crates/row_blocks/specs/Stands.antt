@@ -100,3 +100,12 @@ abbrev pub StandsForMore : Kept → LogEntry → Kept → Type 0
 StandsForMore old e new =
     (log : List LogEntry) (frontier floor : ℕ) → IsLog log frontier → IsNext old log e
     → (StandsFor old log floor → StandsFor new log floor) × (HoldsAll old log → HoldsAll new log)
+
+-- a shard has passed the first entries of a log: its own among them are applied, and no later ones
+pub record HasPassed (kept : Kept) (first : List LogEntry) : Type 0 where
+  pub applied : AllByRecursion (λ e. is_own kept.number e ≡ true → e.pos < kept.applied) first
+  pub upto : kept.applied ≤ length first
+
+-- a shard that has applied nothing stands for each log at the floor 0, and holds all
+abbrev pub StandsFromStart : Kept → Type 0
+StandsFromStart kept = (log : List LogEntry) (frontier : ℕ) → IsLog log frontier → StandsFor kept log 0 × HoldsAll kept log
