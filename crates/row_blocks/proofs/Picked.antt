@@ -1,5 +1,5 @@
 -- Lemmas on the latest of some versions.
-use Rattle.std.proofs.Common.{◌≡◌, length, ℕ, ◌+◌, ◌<◌, ◌≤◌, ◌==◌, nat_lt, nat_le, Bool, true, false, not, cond, ◌&&◌, List, [], ◌∷◌, ◌++◌, map, filter, Option, Some, None, refl, sym, ap, ap₂, ◌∙◌, arith, append-nil}
+use Rattle.std.proofs.Common.{◌≡◌, length, drop, get_or, add-one, drop-cons, ℕ, ◌+◌, ◌<◌, ◌≤◌, ◌==◌, nat_lt, nat_le, Bool, true, false, not, cond, ◌&&◌, List, [], ◌∷◌, ◌++◌, map, filter, Option, Some, None, refl, sym, ap, ap₂, ◌∙◌, arith, append-nil}
 use Rattle.std.specs.List.{list_any, AllByRecursion}
 use Rattle.std.proofs.lemmas.Bool.{eqb-true}
 use Rattle.std.proofs.lemmas.Bool.Decides.{nat_tests}
@@ -189,3 +189,12 @@ best_is_latest_versions q versions ends best all e h = best_is_latest q versions
 pub best_is_latest_ends : (q : ℕ) (versions : List Version) (ends : List (Option End)) (best all : Option Candidate) → later best (latest (candidates q versions ends)) ≡ all
   → length ends ≡ 0 → best ≡ all
 best_is_latest_ends q versions ends best all e h = best_is_latest q versions ends best all e (no_ends q versions ends h)
+
+-- a loop over versions: the best so far with the next one and the latest of the rest are the latest of all
+pub latest_more : (c : Commits) (vs : List Version) (i : ℕ) (v : Version) (best next all : Option Candidate) → i < length vs → v ≡ get_or vs i v → next ≡ later best (candidate v (c v.txn))
+  → later best (latest_by c (drop i vs)) ≡ all → later next (latest_by c (drop (i + 1) vs)) ≡ all
+latest_more c vs i v best next all h is e inv =
+    let split : drop i vs ≡ v ∷ drop (i + 1) vs = rw (add-one) (drop-cons vs i v h) ∙ ap (λ w. w ∷ drop (i + 1) vs) (sym is) in
+    ap (λ x. later x (latest_by c (drop (i + 1) vs))) e
+    ∙ later_assoc best (candidate v (c v.txn)) (latest_by c (drop (i + 1) vs))
+    ∙ ap (λ l. later best (latest_by c l)) (sym split) ∙ inv

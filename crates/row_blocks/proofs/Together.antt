@@ -12,11 +12,11 @@ use Rattle.row_blocks.specs.declared.version.Version.{Version}
 use Rattle.row_blocks.specs.declared.version.End.{End}
 use Rattle.row_blocks.specs.Pick.{Commits, counted, candidate, row_of, latest, latest_by, picked_by, candidates, picked}
 use Rattle.row_blocks.specs.Law.{IsLog, commits_at}
-use Rattle.row_blocks.specs.Stands.{Kept, none_kept, is_own, IsSlot, HasApplied, StandsFor, HoldsAll, IsNext, after_entry, HasPassed, StandsFromStart}
+use Rattle.row_blocks.specs.Stands.{Kept, none_kept, is_own, IsSlot, HasApplied, StandsFor, HoldsAll, IsNext, after_entry, SameKept, HasPassed, StandsFromStart}
 use Rattle.row_blocks.specs.Shards.{Shards, versions_in, end_in, commits_in, row_in, Serves, PickGivesRow, ShardsGiveRows}
 use Rattle.row_blocks.proofs.Picked.{latest_by-same}
 use Rattle.row_blocks.proofs.Walked.{Placed, placed, all_above}
-use Rattle.row_blocks.proofs.Stands.{stands_picked, stands_end, stands_longer, holds_longer, none_holds, none_stands_for, placed_rest, position}
+use Rattle.row_blocks.proofs.Stands.{stands_picked, stands_end, stands_longer, holds_longer, none_holds, none_stands_for, stands_same, holds_same, placed_rest, position}
 
 -- the pick over lists is the pick by the transactions of the versions
 pub picked_by_txn : (q : ℕ) (ends : ℕ → Option End) (vs : List Version) → picked q vs (map (λ v. ends v.txn) vs) ≡ picked_by (λ t. counted q (ends t)) vs
@@ -113,3 +113,9 @@ log_none = record { sound = tt; places = refl; scns = tt }
 
 pub none_stands : (n : ℕ) → StandsFromStart (none_kept n)
 none_stands n log frontier h = (none_stands_for n log frontier h, none_holds n log)
+
+-- so does a shard that keeps the same
+pub new_stands : (kept : Kept) (n : ℕ) → SameKept kept (none_kept n) → StandsFromStart kept
+new_stands kept n same log frontier h =
+    let s = none_stands n log frontier h in
+    (stands_same kept (none_kept n) log 0 same s.0, holds_same kept (none_kept n) log same s.1)

@@ -6,4 +6,5 @@ pub mod block;
 pub mod law;
 pub mod pick;
 pub mod shard;
+pub mod shards;
 pub mod version;

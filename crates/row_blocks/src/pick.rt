@@ -11,7 +11,7 @@ use std::sync::ledger::Ledger;
 /// The latest version that counts, so far: where its transaction committed, its own position and
 /// its row. The numbers are plain, since they are copied with the reference.
 #[derive(Clone, Copy)]
-struct Best<'a> {
+pub(crate) struct Best<'a> {
     commit: u64,
     pos: u64,
     row: &'a Option<Row>,
@@ -28,7 +28,7 @@ fn commit_upto(end: Option<End>, q: Scn) -> Option<u64>
 }
 
 /// The later of the best so far and a version with the end of its transaction.
-fn with_version<'a>(
+pub(crate) fn with_version<'a>(
     best: Option<Best<'a>>,
     version: &'a Version,
     end: Option<End>,
@@ -71,7 +71,7 @@ pub fn pick<'a, L: Ledger>(
 }
 
 /// The row of the best, where it has one, at the cost of a step.
-fn told<'a, L: Ledger>(best: Option<Best<'a>>, steps: &mut Steps<L>) -> Option<&'a Row>
+pub(crate) fn told<'a, L: Ledger>(best: Option<Best<'a>>, steps: &mut Steps<L>) -> Option<&'a Row>
     ensures row { option_copied result ≡ row_of (shown best.entry) }
     ensures cost { steps.new ≡ steps.old + (if is_some result then 1 else 0) }
 {

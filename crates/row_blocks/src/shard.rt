@@ -2,7 +2,7 @@ ghost use Rattle.std.specs.Prelude.{◌≡◌, ℕ, ◌+◌, ◌<◌, ◌^◌, O
 ghost use Rattle.adg_base.specs.Shard.{shard_of_vector};
 ghost use Rattle.adg_model.specs.Database.{place};
 ghost use Rattle.row_blocks.specs.Versions.{Makes, Strikes};
-ghost use Rattle.row_blocks.specs.Stands.{SameKept, StandsForMore, with_entry, after_entry, none_kept};
+ghost use Rattle.row_blocks.specs.Stands.{SameKept, StandsFromStart, StandsForMore, with_entry, after_entry, none_kept};
 ghost use Rattle.row_blocks.specs.Shard.{shown, DoesAt, EndsAt, at_slot};
 
 use crate::block::{Block, SLOTS};
@@ -39,7 +39,8 @@ pub struct Shard {
 impl Shard {
     /// The shard of this number with nothing applied.
     pub fn new(alloc: Global, number: u8) -> Shard
-        ensures { SameKept (shown result) (none_kept number) }
+        ensures empty { SameKept (shown result) (none_kept number) }
+        ensures stands { StandsFromStart (shown result) }
     {
         Shard {
             alloc,

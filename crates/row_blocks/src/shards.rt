@@ -1,0 +1,85 @@
+ghost use Rattle.std.specs.Prelude.{◌≡◌, ℕ, ◌+◌, if◌then◌else◌, length, is_some, option_copied};
+ghost use Rattle.adg_model.specs.Database.{place};
+ghost use Rattle.row_blocks.specs.Pick.{candidate, later, picked_by};
+ghost use Rattle.row_blocks.specs.Best.{shown};
+ghost use Rattle.row_blocks.specs.Shard.{at_slot};
+ghost use Rattle.row_blocks.specs.Shards.{shards_in, versions_in, end_in, commits_in, row_in};
+
+use crate::block::Block;
+use crate::pick::{Best, told, with_version};
+use crate::shard::Shard;
+use crate::version::{End, Version};
+use adg_base::address::Addr;
+use adg_base::number::{Obj, Scn, Txn};
+use adg_base::row::Row;
+use adg_base::shard::{block_shard, txn_shard};
+use adg_base::steps::Steps;
+use std::sync::ledger::Ledger;
+
+/// A block, from its shard among the 64, where it has a version.
+pub fn block_of(shards: &[Shard], obj: Obj, block: u16) -> Option<&Block>
+    requires { length shards.now ≡ 64 }
+    ensures { (slot : ℕ) → at_slot (option_copied result) slot ≡ versions_in (shards_in shards.now) (place obj block slot) }
+{
+    shards[block_shard(obj, block) as usize].block(obj, block)
+}
+
+/// The end of a transaction, from its shard among the 64.
+pub fn end_of(shards: &[Shard], txn: Txn) -> Option<End>
+    requires { length shards.now ≡ 64 }
+    ensures { result ≡ end_in (shards_in shards.now) txn }
+{
+    shards[txn_shard(txn) as usize].ends(txn)
+}
+
+/// The later of the best so far and a version. For a struck version no end is looked up.
+fn with_version_of<'a>(
+    best: Option<Best<'a>>,
+    version: &'a Version,
+    shards: &[Shard],
+    q: Scn,
+) -> Option<Best<'a>>
+    requires { length shards.now ≡ 64 }
+    ensures { shown result ≡ later (shown best.entry) (candidate version.now (commits_in (shards_in shards.now) q version.now.txn)) }
+{
+    if version.struck {
+        best
+    } else {
+        with_version(best, version, end_of(shards, version.txn), q)
+    }
+}
+
+/// As `pick`, with the ends looked up in the 64 shards.
+pub fn pick_in<'a, L: Ledger>(
+    versions: &'a [Version],
+    shards: &[Shard],
+    q: Scn,
+    steps: &mut Steps<L>,
+) -> Option<&'a Row>
+    requires { length shards.now ≡ 64 }
+    ensures row { option_copied result ≡ picked_by (commits_in (shards_in shards.now) q) versions.now }
+    ensures cost { steps.new ≡ steps.old + (if is_some result then 1 else 0) }
+{
+    let mut best = None;
+    for version in versions {
+        best = with_version_of(best, version, shards, q);
+    }
+    told(best, steps)
+}
+
+/// The row that the 64 shards give at an address.
+pub fn row_at<'a, L: Ledger>(
+    shards: &'a [Shard],
+    addr: Addr,
+    q: Scn,
+    steps: &mut Steps<L>,
+) -> Option<&'a Row>
+    requires { length shards.now ≡ 64 }
+    ensures row { option_copied result ≡ row_in (shards_in shards.now) q addr }
+    ensures cost { steps.new ≡ steps.old + (if is_some result then 1 else 0) }
+{
+    match block_of(shards, addr.obj(), addr.block()) {
+        Some(block) => pick_in(block.versions(addr.slot()), shards, q, steps),
+        None => None,
+    }
+}
