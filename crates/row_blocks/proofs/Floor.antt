@@ -111,30 +111,30 @@ module _ (floor q bound : ℕ) (ends : ℕ → Option End) (parted : IsParted fl
   open_high (v ∷ vs) = by_tests v.struck (is_late floor (ends v.txn)) refl (open_high vs)
     where
       by_tests : (s l : Bool) → is_late floor (ends v.txn) ≡ l → Takes (λ p. bound ≤ p) (latest_by (λ t. counted q (ends t)) (filter (is_open_by floor ends) vs))
-        → Takes (λ p. bound ≤ p) (latest_by (λ t. counted q (ends t)) (cond (not s && l) (v ∷ filter (is_open_by floor ends) vs) (filter (is_open_by floor ends) vs)))
+          → Takes (λ p. bound ≤ p) (latest_by (λ t. counted q (ends t)) (cond (not s && l) (v ∷ filter (is_open_by floor ends) vs) (filter (is_open_by floor ends) vs)))
       by_tests true l k ih = ih
       by_tests false false k ih = ih
       by_tests false true k ih = takes_later (λ p. bound ≤ p) (candidate v (counted q (ends v.txn))) _ (high_candidate v k) ih
 
   pub latest_through : (vs : List Version)
-    → latest_by (λ t. counted q (ends t)) vs ≡ first_else (latest_by (λ t. counted q (ends t)) (filter (is_open_by floor ends) vs)) (latest_by (λ t. counted floor (ends t)) vs)
+      → latest_by (λ t. counted q (ends t)) vs ≡ first_else (latest_by (λ t. counted q (ends t)) (filter (is_open_by floor ends) vs)) (latest_by (λ t. counted floor (ends t)) vs)
   latest_through [] = refl
   latest_through (v ∷ vs) = by_tests v.struck (is_late floor (ends v.txn)) refl refl (latest_through vs)
     where
       by_tests : (s l : Bool) → v.struck ≡ s → is_late floor (ends v.txn) ≡ l
-        → latest_by (λ t. counted q (ends t)) vs ≡ first_else (latest_by (λ t. counted q (ends t)) (filter (is_open_by floor ends) vs)) (latest_by (λ t. counted floor (ends t)) vs)
-        → later (candidate v (counted q (ends v.txn))) (latest_by (λ t. counted q (ends t)) vs)
+          → latest_by (λ t. counted q (ends t)) vs ≡ first_else (latest_by (λ t. counted q (ends t)) (filter (is_open_by floor ends) vs)) (latest_by (λ t. counted floor (ends t)) vs)
+          → later (candidate v (counted q (ends v.txn))) (latest_by (λ t. counted q (ends t)) vs)
           ≡ first_else (latest_by (λ t. counted q (ends t)) (cond (not s && l) (v ∷ filter (is_open_by floor ends) vs) (filter (is_open_by floor ends) vs)))
-              (later (candidate v (counted floor (ends v.txn))) (latest_by (λ t. counted floor (ends t)) vs))
+          (later (candidate v (counted floor (ends v.txn))) (latest_by (λ t. counted floor (ends t)) vs))
       by_tests true l k m ih = rw (candidate_struck v (counted q (ends v.txn)) k, candidate_struck v (counted floor (ends v.txn)) k) ih
       by_tests false true k m ih =
           rw (late_counted floor (ends v.txn) m)
-            (ap (later (candidate v (counted q (ends v.txn)))) ih
-              ∙ open_wins bound (candidate v (counted q (ends v.txn))) _ _ (high_candidate v m) (takes_latest (λ p. p < bound) (λ t. counted floor (ends t)) vs low_commit))
+          (ap (later (candidate v (counted q (ends v.txn)))) ih
+          ∙ open_wins bound (candidate v (counted q (ends v.txn))) _ _ (high_candidate v m) (takes_latest (λ p. p < bound) (λ t. counted floor (ends t)) vs low_commit))
       by_tests false false k m ih =
           rw (closed_same floor q (ends v.txn) upto m)
-            (ap (later (candidate v (counted floor (ends v.txn)))) ih
-              ∙ closed_loses bound (candidate v (counted floor (ends v.txn))) _ _ (takes_candidate (λ p. p < bound) v (counted floor (ends v.txn)) (low_commit v.txn)) (open_high vs))
+          (ap (later (candidate v (counted floor (ends v.txn)))) ih
+          ∙ closed_loses bound (candidate v (counted floor (ends v.txn))) _ _ (takes_candidate (λ p. p < bound) v (counted floor (ends v.txn)) (low_commit v.txn)) (open_high vs))
 
   first_row : (o x y : Option Candidate) → row_of x ≡ row_of y → row_of (first_else o x) ≡ row_of (first_else o y)
   first_row None x y h = h
@@ -142,8 +142,8 @@ module _ (floor q bound : ℕ) (ends : ℕ → Option End) (parted : IsParted fl
 
   -- versions with the same open ones and the same pick at the floor have the same pick
   pub picked_through : (vs ws : List Version) → filter (is_open_by floor ends) vs ≡ filter (is_open_by floor ends) ws
-    → picked_by (λ t. counted floor (ends t)) vs ≡ picked_by (λ t. counted floor (ends t)) ws
-    → picked_by (λ t. counted q (ends t)) vs ≡ picked_by (λ t. counted q (ends t)) ws
+      → picked_by (λ t. counted floor (ends t)) vs ≡ picked_by (λ t. counted floor (ends t)) ws
+      → picked_by (λ t. counted q (ends t)) vs ≡ picked_by (λ t. counted q (ends t)) ws
   picked_through vs ws e h =
       ap row_of (latest_through vs)
       ∙ first_row (latest_by (λ t. counted q (ends t)) (filter (is_open_by floor ends) vs)) _ _ h
@@ -166,7 +166,7 @@ module _ (floor : ℕ) (ends : ℕ → Option End) (t : ℕ) (late : is_late flo
   any_open (v ∷ vs) = by_tests (is_open_by floor ends v) (stands t v) refl refl (any_open vs)
     where
       by_tests : (o s : Bool) → is_open_by floor ends v ≡ o → stands t v ≡ s → list_any (stands t) (filter (is_open_by floor ends) vs) ≡ list_any (stands t) vs
-        → list_any (stands t) (cond o (v ∷ filter (is_open_by floor ends) vs) (filter (is_open_by floor ends) vs)) ≡ (s || list_any (stands t) vs)
+          → list_any (stands t) (cond o (v ∷ filter (is_open_by floor ends) vs) (filter (is_open_by floor ends) vs)) ≡ (s || list_any (stands t) vs)
       by_tests true s h k ih = ap₂ (λ x y. x || y) k ih
       by_tests false true h k ih = absurd (true≢false (sym (open_stands v k) ∙ h))
       by_tests false false h k ih = ih
@@ -176,8 +176,8 @@ module _ (floor : ℕ) (ends : ℕ → Option End) (t : ℕ) (late : is_late flo
   open_strike (v ∷ vs) = by_tests (list_any (stands t) vs) (stands t v) (is_open_by floor ends v) refl refl refl (open_strike vs)
     where
       by_tests : (x s o : Bool) → list_any (stands t) vs ≡ x → stands t v ≡ s → is_open_by floor ends v ≡ o
-        → filter (is_open_by floor ends) (strike t vs) ≡ without_last t (filter (is_open_by floor ends) vs)
-        → filter (is_open_by floor ends) (cond x (v ∷ strike t vs) (cond s (record v { struck = true } ∷ vs) (v ∷ vs)))
+          → filter (is_open_by floor ends) (strike t vs) ≡ without_last t (filter (is_open_by floor ends) vs)
+          → filter (is_open_by floor ends) (cond x (v ∷ strike t vs) (cond s (record v { struck = true } ∷ vs) (v ∷ vs)))
           ≡ without_last t (cond o (v ∷ filter (is_open_by floor ends) vs) (filter (is_open_by floor ends) vs))
       by_tests true s true a b c ih = rw (c, any_open vs, a) (ap (λ l. v ∷ l) ih)
       by_tests true s false a b c ih = rw c ih
@@ -192,8 +192,8 @@ module _ (floor : ℕ) (ends : ℕ → Option End) (t : ℕ) (late : is_late flo
 
 -- a deed of a transaction that has not ended, seen at the open versions
 pub open_deed : (floor : ℕ) (ends : ℕ → Option End) (vs ws : List Version) (pos : ℕ) (d : Option Deed) → OfDeed (λ t. is_late floor (ends t) ≡ true) d
-  → filter (is_open_by floor ends) vs ≡ filter (is_open_by floor ends) ws
-  → filter (is_open_by floor ends) (after_deed vs pos d) ≡ filter (is_open_by floor ends) (after_deed ws pos d)
+    → filter (is_open_by floor ends) vs ≡ filter (is_open_by floor ends) ws
+    → filter (is_open_by floor ends) (after_deed vs pos d) ≡ filter (is_open_by floor ends) (after_deed ws pos d)
 open_deed floor ends vs ws pos None l e = e
 open_deed floor ends vs ws pos (Some (Makes t row)) l e =
     filter-append (is_open_by floor ends) vs _ ∙ ap (λ us. us ++ filter (is_open_by floor ends) (record { pos = pos; txn = t; row = row; struck = false } ∷ [])) e ∙ sym (filter-append (is_open_by floor ends) ws _)

@@ -35,7 +35,7 @@ latest_by-strike c t [] e = refl
 latest_by-strike c t (v ∷ vs) e = by_tests (list_any (stands t) vs) (stands t v) refl (latest_by-strike c t vs e)
   where
     by_tests : (x y : Bool) → stands t v ≡ y → latest_by c (strike t vs) ≡ latest_by c vs
-      → latest_by c (cond x (v ∷ strike t vs) (cond y (record v { struck = true } ∷ vs) (v ∷ vs))) ≡ latest_by c (v ∷ vs)
+        → latest_by c (cond x (v ∷ strike t vs) (cond y (record v { struck = true } ∷ vs) (v ∷ vs))) ≡ latest_by c (v ∷ vs)
     by_tests true y h ih = ap (λ z. later (candidate v (c v.txn)) z) ih
     by_tests false false h ih = refl
     by_tests false true h ih =
@@ -108,14 +108,17 @@ won_other pos low (Some v) (r ∷ rs) x y h w =
 
 -- a version that counts newly
 won_own : (pos low p : ℕ) (row : Option (List Value)) (rs : List (Option (List Value))) (x y : Option Candidate) → low ≤ p → CommitBelow pos x
-  → Won pos (p + 1) rs x y → Won pos low (rs ++ row ∷ []) x (later (Some (record { commit = pos; pos = p; row = row })) y)
+    → Won pos (p + 1) rs x y → Won pos low (rs ++ row ∷ []) x (later (Some (record { commit = pos; pos = p; row = row })) y)
 won_own pos low p row [] None y l h w = (p, l, ap (later (Some (record { commit = pos; pos = p; row = row }))) w)
 won_own pos low p row [] (Some x) y l h w =
     (p, l, ap (later (Some (record { commit = pos; pos = p; row = row }))) w ∙ later_loses (record { commit = pos; pos = p; row = row }) x h)
 won_own pos low p row (r ∷ rs) x y l h w =
-    let k : p + 1 ≤ w.0 = w.1 in
-    (w.0, omega arith, ap (later (Some (record { commit = pos; pos = p; row = row }))) w.2
-      ∙ later_own (record { commit = pos; pos = p; row = row }) (record { commit = pos; pos = w.0; row = r }) refl (omega arith))
+    let k : p + 1 ≤ w.0 = w.1 in (
+      w.0,
+      omega arith,
+      ap (later (Some (record { commit = pos; pos = p; row = row }))) w.2
+          ∙ later_own (record { commit = pos; pos = p; row = row }) (record { commit = pos; pos = w.0; row = r }) refl (omega arith),
+    )
 
 -- The commit of a transaction at a position above all: of its versions that stand the last one wins,
 -- and where there is none nothing changes.
@@ -179,20 +182,20 @@ no_ends q (v ∷ vs) (e ∷ es) h = absurd (omega arith)
 
 -- the best of a loop that has come to the end of one of the lists
 best_is_latest : (q : ℕ) (versions : List Version) (ends : List (Option End)) (best all : Option Candidate) → later best (latest (candidates q versions ends)) ≡ all
-  → candidates q versions ends ≡ [] → best ≡ all
+    → candidates q versions ends ≡ [] → best ≡ all
 best_is_latest q versions ends best all e h = sym (later_none best) ∙ ap (λ cs. later best (latest cs)) (sym h) ∙ e
 
 pub best_is_latest_versions : (q : ℕ) (versions : List Version) (ends : List (Option End)) (best all : Option Candidate) → later best (latest (candidates q versions ends)) ≡ all
-  → length versions ≡ 0 → best ≡ all
+    → length versions ≡ 0 → best ≡ all
 best_is_latest_versions q versions ends best all e h = best_is_latest q versions ends best all e (no_versions q versions ends h)
 
 pub best_is_latest_ends : (q : ℕ) (versions : List Version) (ends : List (Option End)) (best all : Option Candidate) → later best (latest (candidates q versions ends)) ≡ all
-  → length ends ≡ 0 → best ≡ all
+    → length ends ≡ 0 → best ≡ all
 best_is_latest_ends q versions ends best all e h = best_is_latest q versions ends best all e (no_ends q versions ends h)
 
 -- a loop over versions: the best so far with the next one and the latest of the rest are the latest of all
 pub latest_more : (c : Commits) (vs : List Version) (i : ℕ) (v : Version) (best next all : Option Candidate) → i < length vs → v ≡ get_or vs i v → next ≡ later best (candidate v (c v.txn))
-  → later best (latest_by c (drop i vs)) ≡ all → later next (latest_by c (drop (i + 1) vs)) ≡ all
+    → later best (latest_by c (drop i vs)) ≡ all → later next (latest_by c (drop (i + 1) vs)) ≡ all
 latest_more c vs i v best next all h is e inv =
     let split : drop i vs ≡ v ∷ drop (i + 1) vs = rw (add-one) (drop-cons vs i v h) ∙ ap (λ w. w ∷ drop (i + 1) vs) (sym is) in
     ap (λ x. later x (latest_by c (drop (i + 1) vs))) e

@@ -44,7 +44,7 @@ versions_after-filter a f vs [] h = refl
 versions_after-filter a f vs (e ∷ es) h = by_tests (f e) (deed_at a e.vector) refl refl (λ ws. versions_after-filter a f ws es h.1)
   where
     by_tests : (b : Bool) (d : Option Deed) → f e ≡ b → deed_at a e.vector ≡ d → ((ws : List Version) → versions_after a ws (filter f es) ≡ versions_after a ws es)
-      → versions_after a vs (cond b (e ∷ filter f es) (filter f es)) ≡ versions_after a (after_deed vs e.pos d) es
+        → versions_after a vs (cond b (e ∷ filter f es) (filter f es)) ≡ versions_after a (after_deed vs e.pos d) es
     by_tests true d k g ih = ih (after_deed vs e.pos (deed_at a e.vector)) ∙ ap (λ x. versions_after a (after_deed vs e.pos x) es) g
     by_tests false None k g ih = ih vs
     by_tests false (Some d) k g ih = absurd (true≢false (sym (h.0 (ap is_some g)) ∙ k))
@@ -75,17 +75,17 @@ placed_parts pos (e ∷ xs) ys h = (h.0, placed_parts (pos + 1) xs ys h.1)
 
 -- the deeds above an SCN are of transactions without an end up to it
 pub late_deeds : (log : List LogEntry) (frontier : ℕ) → IsLog log frontier → (q : ℕ) (a : Place)
-  → AllByRecursion (λ e. q < e.scn → OfDeed (λ t. is_late q (end_of log t) ≡ true) (deed_at a e.vector)) log
+    → AllByRecursion (λ e. q < e.scn → OfDeed (λ t. is_late q (end_of log t) ≡ true) (deed_at a e.vector)) log
 late_deeds log frontier h q a =
     each_weaker (IsLateAt a q (ends_after (λ t. None) log)) _
-      (λ e k above. of_deed _ _ (deed_at a e.vector) (λ t. λ late. sym (ap (is_late q) (ends_after-is (λ u. None) log t)) ∙ late) (k above))
-      log (late_walk a q 1 frontier no_database (λ t. None) log h.sound (λ t. refl) h.scns)
+    (λ e k above. of_deed _ _ (deed_at a e.vector) (λ t. λ late. sym (ap (is_late q) (ends_after-is (λ u. None) log t)) ∙ late) (k above))
+    log (late_walk a q 1 frontier no_database (λ t. None) log h.sound (λ t. refl) h.scns)
 
 -- The law, with the versions that some of the entries make: all that do something at the address up to q,
 -- and any others.
 pub picked_of_some : (log : List LogEntry) (frontier : ℕ) → IsLog log frontier → (q : ℕ) (a : Place) (f : LogEntry → Bool)
-  → AllByRecursion (λ e. e.scn ≤ q → Keeps a f e) log
-  → picked_by (commits_at log q) (versions_of (filter f log) a) ≡ rows_at log q a
+    → AllByRecursion (λ e. e.scn ≤ q → Keeps a f e) log
+    → picked_by (commits_at log q) (versions_of (filter f log) a) ≡ rows_at log q a
 unfolding database
 picked_of_some log frontier h q a f keeps =
     ap row_of (latest_parts ∙ latest_low) ∙ sym tied.row ∙ sym (ap (λ es. (walked no_database es).rows a) s.upto)
@@ -95,9 +95,9 @@ picked_of_some log frontier h q a f keeps =
 
     tied : IsTied a q (walked no_database s.low) (versions_after a [] s.low) (ends_after (λ t. None) s.low) (0 + length s.low)
     tied = tied_walk a q no_database [] (λ t. None) 0 s.low (record { row = refl; pending = λ t k. refl; ended = λ t. refl; below = λ t e k. absurd (none-some e k); rising = tt; before = tt })
-      (sound_parts no_database s.low s.high (subst (SoundFrom no_database) s.whole h.sound))
-      (placed_parts 0 s.low s.high (subst (Placed 0) s.whole (placed 0 log h.places)))
-      s.are_low
+        (sound_parts no_database s.low s.high (subst (SoundFrom no_database) s.whole h.sound))
+        (placed_parts 0 s.low s.high (subst (Placed 0) s.whole (placed 0 log h.places)))
+        s.are_low
 
     -- the ends above q do not count
     same_commits : (t : ℕ) → commits_at log q t ≡ counted q (ends_after (λ u. None) s.low t)
@@ -115,7 +115,7 @@ picked_of_some log frontier h q a f keeps =
     high_spares : AllByRecursion (Spares (commits_at log q) a) s.high
     high_spares =
         each_and _ _ (Spares (commits_at log q) a) s.high (λ e k l. of_deed _ _ (deed_at a e.vector) (λ t. late_counted q (end_of log t)) (k l))
-          (each_parts _ s.low s.high (subst (AllByRecursion (λ e. q < e.scn → OfDeed (λ t. is_late q (end_of log t) ≡ true) (deed_at a e.vector))) s.whole (late_deeds log frontier h q a))).1 s.are_high
+        (each_parts _ s.low s.high (subst (AllByRecursion (λ e. q < e.scn → OfDeed (λ t. is_late q (end_of log t) ≡ true) (deed_at a e.vector))) s.whole (late_deeds log frontier h q a))).1 s.are_high
 
     latest_parts : latest_by (commits_at log q) (versions_of (filter f log) a) ≡ latest_by (commits_at log q) (versions_after a [] s.low)
     latest_parts =

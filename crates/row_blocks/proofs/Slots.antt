@@ -21,13 +21,13 @@ abbrev pub SetsBlock : ℕ × ℕ → Blocks → Blocks → List (List Version) 
 SetsBlock k old new slots = (q : ℕ × ℕ) → new q ≡ cond (same_block k q) (Some slots) (old q)
 
 pub deed_in_slot : (o b s pos : ℕ) (d : Deed) (old new : Blocks) (slots : List (List Version)) → SetsBlock (o, b) old new slots
-  → ((n : ℕ) → slice_index_or slots n [] ≡ cond (n == s) (after_deed (at_slot (old (o, b)) s) pos (Some d)) (at_slot (old (o, b)) n))
-  → (a : Place) → at_slot (new (a.obj, a.block)) a.slot ≡ after_deed (at_slot (old (a.obj, a.block)) a.slot) pos (cond (same_place a (place o b s)) (Some d) None)
+    → ((n : ℕ) → slice_index_or slots n [] ≡ cond (n == s) (after_deed (at_slot (old (o, b)) s) pos (Some d)) (at_slot (old (o, b)) n))
+    → (a : Place) → at_slot (new (a.obj, a.block)) a.slot ≡ after_deed (at_slot (old (a.obj, a.block)) a.slot) pos (cond (same_place a (place o b s)) (Some d) None)
 deed_in_slot o b s pos d old new slots sets at a =
     ap (λ x. at_slot x a.slot) (sets (a.obj, a.block)) ∙ by_block (nat_eq o a.obj && nat_eq b a.block) refl
   where
     by_block : (x : Bool) → (nat_eq o a.obj && nat_eq b a.block) ≡ x
-      → at_slot (cond x (Some slots) (old (a.obj, a.block))) a.slot ≡ after_deed (at_slot (old (a.obj, a.block)) a.slot) pos (cond (same_place a (place o b s)) (Some d) None)
+        → at_slot (cond x (Some slots) (old (a.obj, a.block))) a.slot ≡ after_deed (at_slot (old (a.obj, a.block)) a.slot) pos (cond (same_place a (place o b s)) (Some d) None)
     by_block false h =
         let n : same_place a (place o b s) ≡ false = grind (arith, nat_tests) in
         rw n refl
@@ -40,7 +40,7 @@ deed_in_slot o b s pos d old new slots sets at a =
         ∙ ap (λ t. after_deed (at_slot (old (a.obj, a.block)) a.slot) pos (cond t (Some d) None)) (sym same)
       where
         by_slot : (y : Bool) → (a.slot == s) ≡ y
-          → cond y (after_deed (at_slot (old (o, b)) s) pos (Some d)) (at_slot (old (o, b)) a.slot) ≡ after_deed (at_slot (old (o, b)) a.slot) pos (cond y (Some d) None)
+            → cond y (after_deed (at_slot (old (o, b)) s) pos (Some d)) (at_slot (old (o, b)) a.slot) ≡ after_deed (at_slot (old (o, b)) a.slot) pos (cond y (Some d) None)
         by_slot true e = ap (λ n. after_deed (at_slot (old (o, b)) n) pos (Some d)) (sym (eqb-true a.slot s e))
         by_slot false e = refl
 
@@ -60,14 +60,14 @@ pub AtSlot : ℕ × ℕ → Blocks → ℕ → ℕ → Deed → List (List Versi
 AtSlot k old s pos d slots = (n : ℕ) → slice_index_or slots n [] ≡ cond (n == s) (after_deed (at_slot (old k) s) pos (Some d)) (at_slot (old k) n)
 
 pub known_slot : (k : ℕ × ℕ) (old : Blocks) (s pos : ℕ) (d : Deed) (known slots : List (List Version)) (versions : List Version)
-  → old k ≡ Some known → SetsSlot known slots s versions → versions ≡ after_deed (slice_index_or known s []) pos (Some d) → AtSlot k old s pos d slots
+    → old k ≡ Some known → SetsSlot known slots s versions → versions ≡ after_deed (slice_index_or known s []) pos (Some d) → AtSlot k old s pos d slots
 unfolding AtSlot
 known_slot k old s pos d known slots versions found sets e n =
     sets n ∙ ap (λ vs. cond (n == s) vs (slice_index_or known n [])) e
     ∙ ap (λ x. cond (n == s) (after_deed (at_slot x s) pos (Some d)) (at_slot x n)) (sym found)
 
 pub fresh_slot : (k : ℕ × ℕ) (old : Blocks) (s pos : ℕ) (d : Deed) (fresh slots : List (List Version)) (versions : List Version)
-  → old k ≡ None → ((n : ℕ) → slice_index_or fresh n [] ≡ []) → SetsSlot fresh slots s versions → versions ≡ after_deed (slice_index_or fresh s []) pos (Some d) → AtSlot k old s pos d slots
+    → old k ≡ None → ((n : ℕ) → slice_index_or fresh n [] ≡ []) → SetsSlot fresh slots s versions → versions ≡ after_deed (slice_index_or fresh s []) pos (Some d) → AtSlot k old s pos d slots
 unfolding AtSlot
 fresh_slot k old s pos d fresh slots versions missing none sets e n =
     sets n ∙ ap₂ (λ vs x. cond (n == s) vs x) (e ∙ ap (λ vs. after_deed vs pos (Some d)) (none s)) (none n)
@@ -75,15 +75,15 @@ fresh_slot k old s pos d fresh slots versions missing none sets e n =
 
 -- a deed in one slot, for the shard
 pub does_at : (old new : Kept) (o b s pos : ℕ) (d : Deed) (before after : Blocks) (slots : List (List Version))
-  → new.number ≡ old.number → new.applied ≡ old.applied → ((t : ℕ) → new.ends t ≡ old.ends t)
-  → ((a : Place) → old.versions a ≡ at_slot (before (a.obj, a.block)) a.slot) → ((a : Place) → new.versions a ≡ at_slot (after (a.obj, a.block)) a.slot)
-  → SetsBlock (o, b) before after slots → AtSlot (o, b) before s pos d slots → DoesAt old new (place o b s) pos d
+    → new.number ≡ old.number → new.applied ≡ old.applied → ((t : ℕ) → new.ends t ≡ old.ends t)
+    → ((a : Place) → old.versions a ≡ at_slot (before (a.obj, a.block)) a.slot) → ((a : Place) → new.versions a ≡ at_slot (after (a.obj, a.block)) a.slot)
+    → SetsBlock (o, b) before after slots → AtSlot (o, b) before s pos d slots → DoesAt old new (place o b s) pos d
 unfolding AtSlot
 does_at old new o b s pos d before after slots number applied ends was is sets at = record {
   number = number;
   applied = applied;
   versions = λ a k. is a ∙ deed_in_slot o b s pos d before after slots sets at a
-    ∙ ap (λ vs. after_deed vs pos (cond (same_place a (place o b s)) (Some d) None)) (sym (was a));
+      ∙ ap (λ vs. after_deed vs pos (cond (same_place a (place o b s)) (Some d) None)) (sym (was a));
   ends = ends;
 }
 

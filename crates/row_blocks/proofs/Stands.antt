@@ -79,14 +79,14 @@ end_own n t e h k = by_vector e.vector k
 
 -- where a shard's own entries up to q are applied, they are among those below its position
 applied_keeps : (kept : Kept) (log : List LogEntry) (q : ℕ) (a : Place) → HasApplied kept log q → shard_of_block a.obj a.block ≡ kept.number
-  → AllByRecursion (λ e. e.scn ≤ q → Keeps a (λ x. is_own kept.number x && nat_lt x.pos kept.applied) e) log
+    → AllByRecursion (λ e. e.scn ≤ q → Keeps a (λ x. is_own kept.number x && nat_lt x.pos kept.applied) e) log
 applied_keeps kept log q a h k =
     each_weaker (λ e. e.scn ≤ q → is_own kept.number e ≡ true → e.pos < kept.applied) _
-      (λ e f l d. let own : is_own kept.number e ≡ true = deed_own kept.number a e k d in and_from (is_own kept.number e) (nat_lt e.pos kept.applied) own (lt-ltb e.pos kept.applied (f l own))) log h
+    (λ e f l d. let own : is_own kept.number e ≡ true = deed_own kept.number a e k d in and_from (is_own kept.number e) (nat_lt e.pos kept.applied) own (lt-ltb e.pos kept.applied (f l own))) log h
 
 -- the versions that a shard's own entries make have the committed row
 pub picked_of_own : (log : List LogEntry) (frontier : ℕ) → IsLog log frontier → (kept : Kept) (q : ℕ) (a : Place) → HasApplied kept log q → shard_of_block a.obj a.block ≡ kept.number
-  → picked_by (commits_at log q) (versions_of (own_below kept.number kept.applied log) a) ≡ rows_at log q a
+    → picked_by (commits_at log q) (versions_of (own_below kept.number kept.applied log) a) ≡ rows_at log q a
 picked_of_own log frontier h kept q a reached own =
     picked_of_some log frontier h q a (λ e. is_own kept.number e && nat_lt e.pos kept.applied) (applied_keeps kept log q a reached own)
 
@@ -154,10 +154,13 @@ IsSide floor bound pos scn = ((scn ≤ floor) × (pos < bound)) ⊎ ((floor < sc
 -- the ends of a log are parted by each floor
 pub ends_parted : (log : List LogEntry) (frontier : ℕ) → IsLog log frontier → (floor : ℕ) → (bound : ℕ) × IsParted floor bound (end_of log)
 unfolding IsSide
-ends_parted log frontier h floor = (length s.low, record {
+ends_parted log frontier h floor = (
+  length s.low,
+  record {
     low = λ t e k l. low e.pos e.scn l (sides t e k);
     high = λ t e k l. high e.pos e.scn l (sides t e k);
-  })
+  },
+)
   where
     s : Splits floor log
     s = splits floor 1 frontier log h.scns
@@ -168,10 +171,10 @@ ends_parted log frontier h floor = (length s.low, record {
     sides : (t : ℕ) (e : End) → end_of log t ≡ Some e → IsSide floor (length s.low) e.pos e.scn
     sides t e k =
         end_of_each (IsSide floor (length s.low)) t (s.low ++ s.high) e
-          (each-append (λ x. IsSide floor (length s.low) x.pos x.scn) s.low s.high
-            (each_and _ _ _ s.low (λ x p q. let q' : x.pos < 0 + length s.low = q in inl (p, omega arith)) s.are_low (placed_below 0 s.low (placed_parts 0 s.low s.high places)))
-            (each_and _ _ _ s.high (λ x p q. let q' : 0 + length s.low ≤ x.pos = q in inr (p, omega arith)) s.are_high (placed_above (0 + length s.low) s.high (placed_rest 0 s.low s.high places))))
-          (ap (λ es. end_of es t) (sym s.whole) ∙ k)
+        (each-append (λ x. IsSide floor (length s.low) x.pos x.scn) s.low s.high
+        (each_and _ _ _ s.low (λ x p q. let q' : x.pos < 0 + length s.low = q in inl (p, omega arith)) s.are_low (placed_below 0 s.low (placed_parts 0 s.low s.high places)))
+        (each_and _ _ _ s.high (λ x p q. let q' : 0 + length s.low ≤ x.pos = q in inr (p, omega arith)) s.are_high (placed_above (0 + length s.low) s.high (placed_rest 0 s.low s.high places))))
+        (ap (λ es. end_of es t) (sym s.whole) ∙ k)
 
     low : (pos scn : ℕ) → scn ≤ floor → IsSide floor (length s.low) pos scn → pos < length s.low
     low pos scn l (inl p) = p.1
@@ -184,16 +187,16 @@ ends_parted log frontier h floor = (length s.low, record {
 -- THE THEOREM at each SCN from the floor on whose entries are applied: the pick over an address's versions,
 -- with the ends of the log, is the committed row.
 pub stands_picked : (log : List LogEntry) (frontier : ℕ) → IsLog log frontier → (kept : Kept) (floor q : ℕ) → StandsFor kept log floor → floor ≤ q → HasApplied kept log q
-  → (a : Place) → IsSlot a → shard_of_block a.obj a.block ≡ kept.number → picked_by (commits_at log q) (kept.versions a) ≡ rows_at log q a
+    → (a : Place) → IsSlot a → shard_of_block a.obj a.block ≡ kept.number → picked_by (commits_at log q) (kept.versions a) ≡ rows_at log q a
 stands_picked log frontier h kept floor q s l reached a slot own =
     let parted = ends_parted log frontier h floor in
     picked_through floor q parted.0 (end_of log) parted.1 l (kept.versions a) (versions_of (own_below kept.number kept.applied log) a)
-      (s.open_versions a slot) (s.at_floor a slot own ∙ sym (picked_of_own log frontier h kept floor a s.reached own))
+    (s.open_versions a slot) (s.at_floor a slot own ∙ sym (picked_of_own log frontier h kept floor a s.reached own))
     ∙ picked_of_own log frontier h kept q a reached own
 
 -- The end of a transaction in its shard counts as it does in the log, where the shard's entries are applied.
 own_end : (n pos q : ℕ) (t low high : ℕ) (es : List LogEntry) → shard_of_txn t ≡ n → ScnsWithin low high es
-  → AllByRecursion (λ e. e.scn ≤ q → is_own n e ≡ true → e.pos < pos) es → counted q (end_of (own_below n pos es) t) ≡ counted q (end_of es t)
+    → AllByRecursion (λ e. e.scn ≤ q → is_own n e ≡ true → e.pos < pos) es → counted q (end_of (own_below n pos es) t) ≡ counted q (end_of es t)
 own_end n pos q t low high [] own scns h = refl
 own_end n pos q t low high (e ∷ es) own scns h =
     by_end (end_by t e.pos e.scn e.vector) (is_own n e && nat_lt e.pos pos) refl refl (own_end n pos q t e.scn high es own scns.2 h.1)
@@ -202,7 +205,7 @@ own_end n pos q t low high (e ∷ es) own scns h =
     late_rest l xs k = late_counted q (end_of xs t) (end_of_above q t xs k)
 
     by_end : (o : Option End) (b : Bool) → end_by t e.pos e.scn e.vector ≡ o → (is_own n e && nat_lt e.pos pos) ≡ b → counted q (end_of (own_below n pos es) t) ≡ counted q (end_of es t)
-      → counted q (end_of (cond b (e ∷ own_below n pos es) (own_below n pos es)) t) ≡ counted q (earlier o (end_of es t))
+        → counted q (end_of (cond b (e ∷ own_below n pos es) (own_below n pos es)) t) ≡ counted q (earlier o (end_of es t))
     by_end None true m k ih = rw m ih
     by_end None false m k ih = ih
     by_end (Some x) true m k ih = rw m refl
@@ -218,7 +221,7 @@ own_end n pos q t low high (e ∷ es) own scns h =
         by_order l (inr k) = absurd (let j : e.pos < pos = h.0 k (end_own n t e own (ap is_some m)) in omega arith)
 
 pub stands_end : (log : List LogEntry) (frontier : ℕ) → IsLog log frontier → (kept : Kept) (floor q t : ℕ) → StandsFor kept log floor → HasApplied kept log q
-  → shard_of_txn t ≡ kept.number → counted q (kept.ends t) ≡ commits_at log q t
+    → shard_of_txn t ≡ kept.number → counted q (kept.ends t) ≡ commits_at log q t
 stands_end log frontier h kept floor q t s reached own =
     ap (counted q) (s.ends t) ∙ own_end kept.number kept.applied q t 1 frontier log own h.scns reached
 
@@ -228,7 +231,7 @@ before_same n pos e_pos [] l h = refl
 before_same n pos e_pos (x ∷ es) l h = by_test (is_own n x) refl (before_same n pos e_pos es l h.1)
   where
     by_test : (b : Bool) → is_own n x ≡ b → own_below n (e_pos + 1) es ≡ own_below n pos es
-      → cond (b && nat_lt x.pos (e_pos + 1)) (x ∷ own_below n (e_pos + 1) es) (own_below n (e_pos + 1) es) ≡ cond (b && nat_lt x.pos pos) (x ∷ own_below n pos es) (own_below n pos es)
+        → cond (b && nat_lt x.pos (e_pos + 1)) (x ∷ own_below n (e_pos + 1) es) (own_below n (e_pos + 1) es) ≡ cond (b && nat_lt x.pos pos) (x ∷ own_below n pos es) (own_below n pos es)
     by_test false k ih = ih
     by_test true k ih =
         let j : x.pos < pos = h.0 k in
@@ -263,14 +266,14 @@ own_next kept log e places s =
     let new : kept.applied ≤ e.pos = s.new in
     let above_old : AllByRecursion (λ x. kept.applied ≤ x.pos) (e ∷ s.rest) = (new, each_weaker (λ x. e.pos + 1 ≤ x.pos) (λ x. kept.applied ≤ x.pos) (λ x l. let l' : e.pos + 1 ≤ x.pos = l in omega arith) s.rest above) in
     let first : own_below n (e.pos + 1) (e ∷ s.rest) ≡ e ∷ [] =
-          own_first n (e.pos + 1) e s.rest (and_from (is_own n e) (nat_lt e.pos (e.pos + 1)) s.own (lt-ltb e.pos (e.pos + 1) (omega arith))) ∙ ap (λ l. e ∷ l) (own_none n (e.pos + 1) s.rest above) in
+    own_first n (e.pos + 1) e s.rest (and_from (is_own n e) (nat_lt e.pos (e.pos + 1)) s.own (lt-ltb e.pos (e.pos + 1) (omega arith))) ∙ ap (λ l. e ∷ l) (own_none n (e.pos + 1) s.rest above) in
     let left : own_below n (e.pos + 1) log ≡ own_below n kept.applied s.before ++ e ∷ [] =
-          ap (own_below n (e.pos + 1)) s.place ∙ filter-append (λ x. is_own n x && nat_lt x.pos (e.pos + 1)) s.before (e ∷ s.rest)
-          ∙ ap₂ (λ x y. x ++ y) (before_same n kept.applied e.pos s.before new s.done) first in
+    ap (own_below n (e.pos + 1)) s.place ∙ filter-append (λ x. is_own n x && nat_lt x.pos (e.pos + 1)) s.before (e ∷ s.rest)
+    ∙ ap₂ (λ x y. x ++ y) (before_same n kept.applied e.pos s.before new s.done) first in
     let right : own_below n kept.applied log ≡ own_below n kept.applied s.before =
-          ap (own_below n kept.applied) s.place ∙ filter-append (λ x. is_own n x && nat_lt x.pos kept.applied) s.before (e ∷ s.rest)
-          ∙ ap (λ l. own_below n kept.applied s.before ++ l) (own_none n kept.applied (e ∷ s.rest) above_old)
-          ∙ append-nil (own_below n kept.applied s.before) in
+    ap (own_below n kept.applied) s.place ∙ filter-append (λ x. is_own n x && nat_lt x.pos kept.applied) s.before (e ∷ s.rest)
+    ∙ ap (λ l. own_below n kept.applied s.before ++ l) (own_none n kept.applied (e ∷ s.rest) above_old)
+    ∙ append-nil (own_below n kept.applied s.before) in
     left ∙ ap (λ l. l ++ e ∷ []) (sym right)
 
 next_within : (kept : Kept) (log : List LogEntry) (e : LogEntry) → Placed 0 log → IsNext kept log e → e.pos + 1 ≤ length log
@@ -287,13 +290,13 @@ end_once : (t : ℕ) (e : LogEntry) → end_of (e ∷ []) t ≡ end_by t e.pos e
 end_once t e = earlier_none (end_by t e.pos e.scn e.vector)
 
 ends_next : (kept : Kept) (log : List LogEntry) (e : LogEntry) → Placed 0 log → IsNext kept log e → (t : ℕ) → kept.ends t ≡ end_of (own_below kept.number kept.applied log) t
-  → earlier (kept.ends t) (end_by t e.pos e.scn e.vector) ≡ end_of (own_below kept.number (e.pos + 1) log) t
+    → earlier (kept.ends t) (end_by t e.pos e.scn e.vector) ≡ end_of (own_below kept.number (e.pos + 1) log) t
 ends_next kept log e places s t h =
     ap₂ earlier h (sym (end_once t e)) ∙ sym (end_of-append (own_below kept.number kept.applied log) (e ∷ []) t)
     ∙ ap (λ es. end_of es t) (sym (own_next kept log e places s))
 
 versions_next : (kept : Kept) (log : List LogEntry) (e : LogEntry) → Placed 0 log → IsNext kept log e → (a : Place)
-  → versions_of (own_below kept.number (e.pos + 1) log) a ≡ after_deed (versions_of (own_below kept.number kept.applied log) a) e.pos (deed_at a e.vector)
+    → versions_of (own_below kept.number (e.pos + 1) log) a ≡ after_deed (versions_of (own_below kept.number kept.applied log) a) e.pos (deed_at a e.vector)
 versions_next kept log e places s a =
     ap (λ es. versions_of es a) (own_next kept log e places s) ∙ versions_after-append a [] (own_below kept.number kept.applied log) (e ∷ [])
 
@@ -327,13 +330,13 @@ stands_next log frontier h kept floor e s next = record {
         by_order (inr k) =
             let new : kept.applied ≤ e.pos = next.new in
             let old : e.pos < kept.applied = each_at (λ x. x.scn ≤ floor → is_own kept.number x ≡ true → x.pos < kept.applied) next.before next.rest e
-                  (subst (AllByRecursion (λ x. x.scn ≤ floor → is_own kept.number x ≡ true → x.pos < kept.applied)) next.place s.reached) k next.own in
+            (subst (AllByRecursion (λ x. x.scn ≤ floor → is_own kept.number x ≡ true → x.pos < kept.applied)) next.place s.reached) k next.own in
             absurd (omega arith)
 
     late : (a : Place) → OfDeed (λ t. is_late floor (end_of log t) ≡ true) (deed_at a e.vector)
     late a =
         each_at (λ x. floor < x.scn → OfDeed (λ t. is_late floor (end_of log t) ≡ true) (deed_at a x.vector)) next.before next.rest e
-          (subst (AllByRecursion (λ x. floor < x.scn → OfDeed (λ t. is_late floor (end_of log t) ≡ true) (deed_at a x.vector))) next.place (late_deeds log frontier h floor a)) above
+        (subst (AllByRecursion (λ x. floor < x.scn → OfDeed (λ t. is_late floor (end_of log t) ≡ true) (deed_at a x.vector))) next.place (late_deeds log frontier h floor a)) above
 
 -- and one that holds all holds all then
 pub holds_next : (log : List LogEntry) (frontier : ℕ) → IsLog log frontier → (kept : Kept) (e : LogEntry) → HoldsAll kept log → IsNext kept log e → HoldsAll (after_entry kept e) log
@@ -375,10 +378,10 @@ pub stands_same : (x y : Kept) (log : List LogEntry) (floor : ℕ) → SameKept 
 stands_same x y log floor e s = record {
   within = subst (λ n. n ≤ length log) (sym e.applied) s.within;
   reached = subst (λ n. AllByRecursion (λ z. z.scn ≤ floor → is_own x.number z ≡ true → z.pos < n) log) (sym e.applied)
-    (subst (λ n. AllByRecursion (λ z. z.scn ≤ floor → is_own n z ≡ true → z.pos < y.applied) log) (sym e.number) s.reached);
+      (subst (λ n. AllByRecursion (λ z. z.scn ≤ floor → is_own n z ≡ true → z.pos < y.applied) log) (sym e.number) s.reached);
   ends = λ t. e.ends t ∙ s.ends t ∙ ap₂ (λ n p. end_of (own_below n p log) t) (sym e.number) (sym e.applied);
   open_versions = λ a slot. ap (filter (is_open floor log)) (e.versions a slot) ∙ s.open_versions a slot
-    ∙ ap₂ (λ n p. filter (is_open floor log) (versions_of (own_below n p log) a)) (sym e.number) (sym e.applied);
+      ∙ ap₂ (λ n p. filter (is_open floor log) (versions_of (own_below n p log) a)) (sym e.number) (sym e.applied);
   at_floor = λ a slot own. ap (picked_by (commits_at log floor)) (e.versions a slot) ∙ s.at_floor a slot (own ∙ e.number);
 }
 
@@ -394,7 +397,7 @@ own_longer : (n pos : ℕ) (log more : List LogEntry) → Placed 0 (log ++ more)
 own_longer n pos log more places l =
     filter-append (λ x. is_own n x && nat_lt x.pos pos) log more
     ∙ ap (λ es. own_below n pos log ++ es)
-        (own_none n pos more (each_weaker (λ x. 0 + length log ≤ x.pos) (λ x. pos ≤ x.pos) (λ x k. let k' : 0 + length log ≤ x.pos = k in omega arith) more (placed_above (0 + length log) more (placed_rest 0 log more places))))
+    (own_none n pos more (each_weaker (λ x. 0 + length log ≤ x.pos) (λ x. pos ≤ x.pos) (λ x k. let k' : 0 + length log ≤ x.pos = k in omega arith) more (placed_above (0 + length log) more (placed_rest 0 log more places))))
     ∙ append-nil (own_below n pos log)
 
 late_longer : (floor t : ℕ) (log more : List LogEntry) → AllByRecursion (λ e. floor < e.scn) more → is_late floor (end_of (log ++ more) t) ≡ is_late floor (end_of log t)
@@ -439,6 +442,7 @@ holds_longer kept log more s places = record {
 
 -- what was applied is one entry more
 pub stands_for_more : (old new : Kept) (e : LogEntry) → SameKept new (after_entry old e) → StandsForMore old e new
-stands_for_more old new e same log frontier floor h next =
-    (λ s. stands_same new (after_entry old e) log floor same (stands_next log frontier h old floor e s next),
-     λ s. holds_same new (after_entry old e) log same (holds_next log frontier h old e s next))
+stands_for_more old new e same log frontier floor h next = (
+  λ s. stands_same new (after_entry old e) log floor same (stands_next log frontier h old floor e s next),
+  λ s. holds_same new (after_entry old e) log same (holds_next log frontier h old e s next),
+)

@@ -17,7 +17,7 @@ any_at t zero (w ∷ vs) v h k = let e : w ≡ v = same_Some w v h in ap (λ x. 
 any_at t (suc i) (w ∷ vs) v h k = or_right (stands t w) (list_any (stands t) vs) (any_at t i vs v h k)
 
 pub strike_at : (t i : ℕ) (vs : List Version) (v : Version) → slice_get vs i ≡ Some v → stands t v ≡ true → list_any (stands t) (drop (i + 1) vs) ≡ false
-  → slice_set vs i (record v { struck = true }) ≡ strike t vs
+    → slice_set vs i (record v { struck = true }) ≡ strike t vs
 strike_at t i [] v h k n = absurd (none-some v h)
 strike_at t zero (w ∷ vs) v h k n =
     let e : w ≡ v = same_Some w v h in

@@ -28,12 +28,12 @@ picked_by_txn q ends vs = ap (λ cs. row_of (latest cs)) (each_candidate vs)
 
 -- the pick with the ends each from the shard of its transaction
 pub picked_apart : (log : List LogEntry) (frontier floor q : ℕ) → IsLog log frontier → floor ≤ q
-  → (a : Place) → IsSlot a → (block : Kept) → Serves block (shard_of_block a.obj a.block) log floor q
-  → (of_txn : ℕ → Kept) → ((t : ℕ) → Serves (of_txn t) (shard_of_txn t) log floor q)
-  → picked_by (λ t. counted q ((of_txn t).ends t)) (block.versions a) ≡ rows_at log q a
+    → (a : Place) → IsSlot a → (block : Kept) → Serves block (shard_of_block a.obj a.block) log floor q
+    → (of_txn : ℕ → Kept) → ((t : ℕ) → Serves (of_txn t) (shard_of_txn t) log floor q)
+    → picked_by (λ t. counted q ((of_txn t).ends t)) (block.versions a) ≡ rows_at log q a
 picked_apart log frontier floor q h l a slot block b of_txn s =
     ap row_of (latest_by-same (λ t. counted q ((of_txn t).ends t)) (commits_at log q)
-      (λ t. stands_end log frontier h (of_txn t) floor q t (s t).stands (s t).applied (sym (s t).number)) (block.versions a))
+    (λ t. stands_end log frontier h (of_txn t) floor q t (s t).stands (s t).applied (sym (s t).number)) (block.versions a))
     ∙ stands_picked log frontier h block floor q b.stands l b.applied a slot (sym b.number)
 
 pub pick_gives_row : PickGivesRow
@@ -43,7 +43,7 @@ pick_gives_row log frontier floor q h l a slot block b of_txn s =
 pub shards_give_rows : ShardsGiveRows
 shards_give_rows log frontier floor q h l shards s a slot =
     picked_apart log frontier floor q h l a slot (shards (shard_of_block a.obj a.block)) (s (shard_of_block a.obj a.block) (omega arith))
-      (λ t. shards (shard_of_txn t)) (λ t. s (shard_of_txn t) (omega arith))
+    (λ t. shards (shard_of_txn t)) (λ t. s (shard_of_txn t) (omega arith))
 
 -- A shard that has passed the entries before its next one is at it.
 pub passed_next : (kept : Kept) (first rest : List LogEntry) (e : LogEntry) → Placed 0 (first ++ e ∷ rest) → HasPassed kept first → is_own kept.number e ≡ true → IsNext kept (first ++ e ∷ rest) e
@@ -62,8 +62,8 @@ passed_own kept first e p h =
     let l : length (first ++ e ∷ []) ≡ length first + 1 = length-append first (e ∷ []) in
     record {
       applied = each-append _ first (e ∷ [])
-        (each_weaker (λ x. is_own kept.number x ≡ true → x.pos < kept.applied) (λ x. is_own kept.number x ≡ true → x.pos < e.pos + 1) (λ x f o. let k : x.pos < kept.applied = f o in omega arith) first h.applied)
-        (λ o. omega arith, tt);
+          (each_weaker (λ x. is_own kept.number x ≡ true → x.pos < kept.applied) (λ x. is_own kept.number x ≡ true → x.pos < e.pos + 1) (λ x f o. let k : x.pos < kept.applied = f o in omega arith) first h.applied)
+          (λ o. omega arith, tt);
       upto = omega arith;
     }
 
@@ -96,7 +96,7 @@ pub log_continued : (log entries : List LogEntry) (old new : ℕ) → IsLog log 
 log_continued log entries old new h c = record {
   sound = c.sound;
   places = numbered-append 0 log entries
-    ∙ ap₂ (λ x y. x ++ y) h.places (let e : 0 + length log ≡ length log = omega arith in ap (λ n. numbered n entries) e ∙ c.places);
+      ∙ ap₂ (λ x y. x ++ y) h.places (let e : 0 + length log ≡ length log = omega arith in ap (λ n. numbered n entries) e ∙ c.places);
   scns = scns-append 1 old new log entries (omega arith) c.forward h.scns c.scns;
 }
 

@@ -83,7 +83,7 @@ standing-push t [] v = by_test (stands t v)
 standing-push t (w ∷ vs) v = by_test (stands t v) (standing-push t vs v)
   where
     by_test : (b : Bool) → standing t (vs ++ v ∷ []) ≡ cond b (v.row ∷ standing t vs) (standing t vs)
-      → standing t (vs ++ v ∷ []) ++ cond (stands t w) (w.row ∷ []) [] ≡ cond b (v.row ∷ standing t (w ∷ vs)) (standing t (w ∷ vs))
+        → standing t (vs ++ v ∷ []) ++ cond (stands t w) (w.row ∷ []) [] ≡ cond b (v.row ∷ standing t (w ∷ vs)) (standing t (w ∷ vs))
     by_test true ih = ap (λ l. l ++ cond (stands t w) (w.row ∷ []) []) ih
     by_test false ih = ap (λ l. l ++ cond (stands t w) (w.row ∷ []) []) ih
 
@@ -153,7 +153,7 @@ standing-strike t (v ∷ vs) = by_tests (list_any (stands t) vs) (stands t v) re
         by_test false = refl
 
     by_tests : (x y : Bool) → list_any (stands t) vs ≡ x → stands t v ≡ y → standing t (strike t vs) ≡ tail (standing t vs)
-      → standing t (cond x (v ∷ strike t vs) (cond y (record v { struck = true } ∷ vs) (v ∷ vs))) ≡ tail (standing t vs ++ cond y (v.row ∷ []) [])
+        → standing t (cond x (v ∷ strike t vs) (cond y (record v { struck = true } ∷ vs) (v ∷ vs))) ≡ tail (standing t vs ++ cond y (v.row ∷ []) [])
     by_tests true y e k ih =
         ap₂ (λ l b. l ++ cond b (v.row ∷ []) []) ih k ∙ sym (tail-append (standing t vs) (cond y (v.row ∷ []) []) (some_stands t vs e))
     by_tests false true e k ih = rw (none_stands t vs e, struck_stands) refl
@@ -170,7 +170,7 @@ standing-strike_other u t (v ∷ vs) h = by_tests (list_any (stands t) vs) (stan
     apart_struck k = grind (arith, nat_tests)
 
     by_tests : (x y : Bool) → stands t v ≡ y → standing u (strike t vs) ≡ standing u vs
-      → standing u (cond x (v ∷ strike t vs) (cond y (record v { struck = true } ∷ vs) (v ∷ vs))) ≡ standing u (v ∷ vs)
+        → standing u (cond x (v ∷ strike t vs) (cond y (record v { struck = true } ∷ vs) (v ∷ vs))) ≡ standing u (v ∷ vs)
     by_tests true y k ih = ap (λ l. l ++ cond (stands u v) (v.row ∷ []) []) ih
     by_tests false true k ih = ap (λ a. standing u vs ++ cond a (v.row ∷ []) []) (apart_struck k ∙ sym (apart k))
     by_tests false false k ih = refl
@@ -198,12 +198,12 @@ none_of None h = refl
 none_of (Some e) h = absurd (true≢false h)
 
 not_ended : (a : Place) (q : ℕ) (db : Database) (vs : List Version) (ends : ℕ → Option End) (pos : ℕ) → IsTied a q db vs ends pos
-  → (t : ℕ) → db.ended t ≡ false → ends t ≡ None
+    → (t : ℕ) → db.ended t ≡ false → ends t ≡ None
 not_ended a q db vs ends pos s t h = none_of (ends t) (sym (s.ended t) ∙ h)
 
 -- an entry that neither changes nor ends
 tied_same : (a : Place) (q : ℕ) (db next : Database) (vs : List Version) (ends more : ℕ → Option End) (pos : ℕ) → IsTied a q db vs ends pos
-  → next.rows ≡ db.rows → next.pending ≡ db.pending → next.ended ≡ db.ended → ((t : ℕ) → more t ≡ ends t) → IsTied a q next vs more (pos + 1)
+    → next.rows ≡ db.rows → next.pending ≡ db.pending → next.ended ≡ db.ended → ((t : ℕ) → more t ≡ ends t) → IsTied a q next vs more (pos + 1)
 tied_same a q db next vs ends more pos s r p e m = record {
   row = ap (λ f. f a) r ∙ s.row ∙ ap row_of (latest_by-same (λ t. counted q (ends t)) (λ t. counted q (more t)) (λ t. ap (counted q) (sym (m t))) vs);
   pending = λ t k. ap (λ f. here a (f t)) p ∙ s.pending t (sym (ap (λ f. f t) e) ∙ k);
@@ -215,7 +215,7 @@ tied_same a q db next vs ends more pos s r p e m = record {
 
 -- what is pending of a transaction, and what stands of it, after a change of some transaction
 pending_makes : (a b : Place) (t u : ℕ) (row : Row) (pos : ℕ) (vs : List Version) (f : ℕ → List Change) (x : Bool) → same_place a b ≡ x → here a (f u) ≡ standing u vs
-  → here a (set_at t (record { at = b; row = row } ∷ f t) f u) ≡ standing u (after_deed vs pos (cond x (Some (Makes t row)) None))
+    → here a (set_at t (record { at = b; row = row } ∷ f t) f u) ≡ standing u (after_deed vs pos (cond x (Some (Makes t row)) None))
 pending_makes a b t u row pos vs f x h s = by_tests x (u == t) h refl
   where
     flip : (y : Bool) → (u == t) ≡ y → (t == u) ≡ y
@@ -243,9 +243,9 @@ all_below_push pos (w ∷ vs) v k h = (h.0, all_below_push pos vs v k h.1)
 
 -- a change of a transaction that runs
 tied_makes : (a : Place) (q : ℕ) (db next : Database) (vs : List Version) (ends more : ℕ → Option End) (pos : ℕ) → IsTied a q db vs ends pos
-  → (t : ℕ) (b : Place) (row : Row) → db.ended t ≡ false
-  → next.rows ≡ db.rows → next.pending ≡ set_at t (record { at = b; row = row } ∷ db.pending t) db.pending → next.ended ≡ db.ended → ((u : ℕ) → more u ≡ ends u)
-  → IsTied a q next (after_deed vs pos (cond (same_place a b) (Some (Makes t row)) None)) more (pos + 1)
+    → (t : ℕ) (b : Place) (row : Row) → db.ended t ≡ false
+    → next.rows ≡ db.rows → next.pending ≡ set_at t (record { at = b; row = row } ∷ db.pending t) db.pending → next.ended ≡ db.ended → ((u : ℕ) → more u ≡ ends u)
+    → IsTied a q next (after_deed vs pos (cond (same_place a b) (Some (Makes t row)) None)) more (pos + 1)
 tied_makes a q db next vs ends more pos s t b row run r p e m = by_test (same_place a b) refl
   where
     pending : (x : Bool) → same_place a b ≡ x → (u : ℕ) → next.ended u ≡ false → here a (next.pending u) ≡ standing u (after_deed vs pos (cond x (Some (Makes t row)) None))
@@ -254,7 +254,7 @@ tied_makes a q db next vs ends more pos s t b row run r p e m = by_test (same_pl
     by_test : (x : Bool) → same_place a b ≡ x → IsTied a q next (after_deed vs pos (cond x (Some (Makes t row)) None)) more (pos + 1)
     by_test true h = record {
       row = ap (λ f. f a) r ∙ s.row
-        ∙ ap row_of (sym (latest_by-push (λ u. counted q (ends u)) vs (record { pos = pos; txn = t; row = row; struck = false }) (ap (counted q) (not_ended a q db vs ends pos s t run)))
+          ∙ ap row_of (sym (latest_by-push (λ u. counted q (ends u)) vs (record { pos = pos; txn = t; row = row; struck = false }) (ap (counted q) (not_ended a q db vs ends pos s t run)))
           ∙ latest_by-same (λ u. counted q (ends u)) (λ u. counted q (more u)) (λ u. ap (counted q) (sym (m u))) (vs ++ record { pos = pos; txn = t; row = row; struck = false } ∷ []));
       pending = pending true h;
       ended = λ u. ap (λ f. f u) e ∙ s.ended u ∙ ap is_some (sym (m u));
@@ -273,7 +273,7 @@ tied_makes a q db next vs ends more pos s t b row run r p e m = by_test (same_pl
 
 -- what is pending of a transaction, and what stands of it, after a strike of some transaction
 pending_strikes : (a b : Place) (t u : ℕ) (pos : ℕ) (vs : List Version) (f : ℕ → List Change) (x : Bool) → same_place a b ≡ x → here a (f u) ≡ standing u vs
-  → here a (set_at t (struck b (f t)) f u) ≡ standing u (after_deed vs pos (cond x (Some (Strikes t)) None))
+    → here a (set_at t (struck b (f t)) f u) ≡ standing u (after_deed vs pos (cond x (Some (Strikes t)) None))
 pending_strikes a b t u pos vs f x h s = by_tests x (u == t) h refl
   where
     own : (u == t) ≡ true → here a (f t) ≡ standing t vs
@@ -287,9 +287,9 @@ pending_strikes a b t u pos vs f x h s = by_tests x (u == t) h refl
 
 -- a strike of a transaction that runs
 tied_strikes : (a : Place) (q : ℕ) (db next : Database) (vs : List Version) (ends more : ℕ → Option End) (pos : ℕ) → IsTied a q db vs ends pos
-  → (t : ℕ) (b : Place) → db.ended t ≡ false
-  → next.rows ≡ db.rows → next.pending ≡ set_at t (struck b (db.pending t)) db.pending → next.ended ≡ db.ended → ((u : ℕ) → more u ≡ ends u)
-  → IsTied a q next (after_deed vs pos (cond (same_place a b) (Some (Strikes t)) None)) more (pos + 1)
+    → (t : ℕ) (b : Place) → db.ended t ≡ false
+    → next.rows ≡ db.rows → next.pending ≡ set_at t (struck b (db.pending t)) db.pending → next.ended ≡ db.ended → ((u : ℕ) → more u ≡ ends u)
+    → IsTied a q next (after_deed vs pos (cond (same_place a b) (Some (Strikes t)) None)) more (pos + 1)
 tied_strikes a q db next vs ends more pos s t b run r p e m = by_test (same_place a b) refl
   where
     pending : (x : Bool) → same_place a b ≡ x → (u : ℕ) → next.ended u ≡ false → here a (next.pending u) ≡ standing u (after_deed vs pos (cond x (Some (Strikes t)) None))
@@ -298,7 +298,7 @@ tied_strikes a q db next vs ends more pos s t b run r p e m = by_test (same_plac
     by_test : (x : Bool) → same_place a b ≡ x → IsTied a q next (after_deed vs pos (cond x (Some (Strikes t)) None)) more (pos + 1)
     by_test true h = record {
       row = ap (λ f. f a) r ∙ s.row
-        ∙ ap row_of (sym (latest_by-strike (λ u. counted q (ends u)) t vs (ap (counted q) (not_ended a q db vs ends pos s t run)))
+          ∙ ap row_of (sym (latest_by-strike (λ u. counted q (ends u)) t vs (ap (counted q) (not_ended a q db vs ends pos s t run)))
           ∙ latest_by-same (λ u. counted q (ends u)) (λ u. counted q (more u)) (λ u. ap (counted q) (sym (m u))) (strike t vs));
       pending = pending true h;
       ended = λ u. ap (λ f. f u) e ∙ s.ended u ∙ ap is_some (sym (m u));
@@ -317,10 +317,10 @@ tied_strikes a q db next vs ends more pos s t b run r p e m = by_test (same_plac
 
 -- the end of a transaction that runs
 tied_ends : (a : Place) (q : ℕ) (db next : Database) (vs : List Version) (ends more : ℕ → Option End) (pos : ℕ) → IsTied a q db vs ends pos
-  → (t : ℕ) (x : End) → db.ended t ≡ false → x.pos ≡ pos
-  → (next.rows a ≡ row_of (latest_by (λ u. counted q (more u)) vs))
-  → next.pending ≡ set_at t [] db.pending → next.ended ≡ set_at t true db.ended → ((u : ℕ) → more u ≡ cond (u == t) (Some x) (ends u))
-  → IsTied a q next vs more (pos + 1)
+    → (t : ℕ) (x : End) → db.ended t ≡ false → x.pos ≡ pos
+    → (next.rows a ≡ row_of (latest_by (λ u. counted q (more u)) vs))
+    → next.pending ≡ set_at t [] db.pending → next.ended ≡ set_at t true db.ended → ((u : ℕ) → more u ≡ cond (u == t) (Some x) (ends u))
+    → IsTied a q next vs more (pos + 1)
 tied_ends a q db next vs ends more pos s t x run place row p e m = record {
   row = row;
   pending = λ u k. pending u (u == t) refl (sym (ap (λ f. f u) e) ∙ k);
@@ -370,8 +370,8 @@ counted_end q (Some e) p h = by_test (e.committed && nat_le e.scn q) h
 
 module _ (a : Place) (q : ℕ) (db : Database) (vs : List Version) (ends : ℕ → Option End) (pos : ℕ) (s : IsTied a q db vs ends pos) (scn : ℕ) (upto : scn ≤ q) where
   commit_row : (t : ℕ) → db.ended t ≡ false → (more : ℕ → Option End)
-    → ((u : ℕ) → more u ≡ cond (u == t) (Some (record { pos = pos; scn = scn; committed = true })) (ends u))
-    → played (db.pending t) db.rows a ≡ row_of (latest_by (λ u. counted q (more u)) vs)
+      → ((u : ℕ) → more u ≡ cond (u == t) (Some (record { pos = pos; scn = scn; committed = true })) (ends u))
+      → played (db.pending t) db.rows a ≡ row_of (latest_by (λ u. counted q (more u)) vs)
   commit_row t run more m =
       played-here a (db.pending t) db.rows ∙ ap₂ first_or (s.pending t run) s.row
       ∙ sym (won_row pos 0 (standing t vs) _ _ (won (λ u. counted q (ends u)) (λ u. counted q (more u)) t pos commits 0 vs s.rising))
@@ -388,8 +388,8 @@ module _ (a : Place) (q : ℕ) (db : Database) (vs : List Version) (ends : ℕ �
       }
 
   abort_row : (t : ℕ) → db.ended t ≡ false → (more : ℕ → Option End)
-    → ((u : ℕ) → more u ≡ cond (u == t) (Some (record { pos = pos; scn = scn; committed = false })) (ends u))
-    → db.rows a ≡ row_of (latest_by (λ u. counted q (more u)) vs)
+      → ((u : ℕ) → more u ≡ cond (u == t) (Some (record { pos = pos; scn = scn; committed = false })) (ends u))
+      → db.rows a ≡ row_of (latest_by (λ u. counted q (more u)) vs)
   abort_row t run more m = s.row ∙ ap row_of (latest_by-same (λ u. counted q (ends u)) (λ u. counted q (more u)) (λ u. same u (u == t) refl ∙ ap (counted q) (sym (m u))) vs)
     where
       same : (u : ℕ) (b : Bool) → (u == t) ≡ b → counted q (ends u) ≡ counted q (cond b (Some (record { pos = pos; scn = scn; committed = false })) (ends u))
@@ -450,15 +450,15 @@ placed pos (e ∷ es) h =
     (sym (ap (λ (x : LogEntry). x.pos) first), placed (pos + 1) es rest)
 
 pub tied_walk : (a : Place) (q : ℕ) (db : Database) (vs : List Version) (ends : ℕ → Option End) (pos : ℕ) (es : List LogEntry) → IsTied a q db vs ends pos
-  → SoundFrom db es → Placed pos es → AllByRecursion (λ e. e.scn ≤ q) es
-  → IsTied a q (walked db es) (versions_after a vs es) (ends_after ends es) (pos + length es)
+    → SoundFrom db es → Placed pos es → AllByRecursion (λ e. e.scn ≤ q) es
+    → IsTied a q (walked db es) (versions_after a vs es) (ends_after ends es) (pos + length es)
 tied_walk a q db vs ends pos [] s sound place upto = let e : pos ≡ pos + 0 = omega arith in subst (λ n. IsTied a q db vs ends n) e s
 tied_walk a q db vs ends pos (e ∷ es) s sound place upto =
     let p : pos ≡ e.pos = sym place.0 in
     let s' : IsTied a q db vs ends e.pos = subst (λ n. IsTied a q db vs ends n) p s in
     let places : Placed (e.pos + 1) es = subst (λ n. Placed (n + 1) es) p place.1 in
     let next = tied_walk a q (after db e.vector) (after_deed vs e.pos (deed_at a e.vector)) (λ t. earlier (ends t) (end_by t e.pos e.scn e.vector)) (e.pos + 1) es
-      (tied_vector a q db vs ends e.pos s' e.scn upto.0 e.vector sound.1) sound.2 places upto.1 in
+    (tied_vector a q db vs ends e.pos s' e.scn upto.0 e.vector sound.1) sound.2 places upto.1 in
     let sum : e.pos + 1 + length es ≡ pos + length (e ∷ es) = omega arith in
     subst (λ n. IsTied a q (walked db (e ∷ es)) (versions_after a vs (e ∷ es)) (ends_after ends (e ∷ es)) n) sum next
 
@@ -539,7 +539,7 @@ deed_runs a db EndThread h = tt
 
 -- a transaction has ended in the walk where it has an end
 pub ended_vector : (db : Database) (ends : ℕ → Option End) (pos scn : ℕ) (v : Vector) → ((t : ℕ) → db.ended t ≡ is_some (ends t))
-  → (t : ℕ) → (after db v).ended t ≡ is_some (earlier (ends t) (end_by t pos scn v))
+    → (t : ℕ) → (after db v).ended t ≡ is_some (earlier (ends t) (end_by t pos scn v))
 ended_vector db ends pos scn v h t = by_vector v
   where
     same : db.ended t ≡ is_some (earlier (ends t) None)
@@ -615,7 +615,7 @@ abbrev pub IsLateAt : Place → ℕ → (ℕ → Option End) → LogEntry → Ty
 IsLateAt a q ends e = q < e.scn → OfDeed (λ t. is_late q (ends t) ≡ true) (deed_at a e.vector)
 
 pub late_walk : (a : Place) (q low high : ℕ) (db : Database) (ends : ℕ → Option End) (es : List LogEntry) → SoundFrom db es
-  → ((t : ℕ) → db.ended t ≡ is_some (ends t)) → ScnsWithin low high es → AllByRecursion (IsLateAt a q (ends_after ends es)) es
+    → ((t : ℕ) → db.ended t ≡ is_some (ends t)) → ScnsWithin low high es → AllByRecursion (IsLateAt a q (ends_after ends es)) es
 late_walk a q low high db ends [] sound h scns = tt
 late_walk a q low high db ends (e ∷ es) sound h scns =
     (first, late_walk a q e.scn high (after db e.vector) (λ t. earlier (ends t) (end_by t e.pos e.scn e.vector)) es sound.2 (ended_vector db ends e.pos e.scn e.vector h) scns.2)

@@ -51,9 +51,9 @@ pub record StandsFor (kept : Kept) (log : List LogEntry) (floor : ℕ) : Type 0 
   pub reached : HasApplied kept log floor
   pub ends : (t : ℕ) → kept.ends t ≡ end_of (own_below kept.number kept.applied log) t
   pub open_versions : (a : Place) → IsSlot a
-    → filter (is_open floor log) (kept.versions a) ≡ filter (is_open floor log) (versions_of (own_below kept.number kept.applied log) a)
+      → filter (is_open floor log) (kept.versions a) ≡ filter (is_open floor log) (versions_of (own_below kept.number kept.applied log) a)
   pub at_floor : (a : Place) → IsSlot a → shard_of_block a.obj a.block ≡ kept.number
-    → picked_by (commits_at log floor) (kept.versions a) ≡ rows_at log floor a
+      → picked_by (commits_at log floor) (kept.versions a) ≡ rows_at log floor a
 
 -- Beside it, while nothing was dropped: its versions are exactly those that its own applied entries make.
 pub record HoldsAll (kept : Kept) (log : List LogEntry) : Type 0 where

@@ -44,8 +44,13 @@ pub(crate) fn with_version<'a>(
     }
     let pos = version.pos.get();
     match best {
-        Some(earlier) if commit < earlier.commit || (commit == earlier.commit && pos < earlier.pos) => best,
-        _ => Some(Best { commit, pos, row: &version.row }),
+        Some(earlier)
+            if commit < earlier.commit || (commit == earlier.commit && pos < earlier.pos) => best,
+        _ => Some(Best {
+            commit,
+            pos,
+            row: &version.row,
+        }),
     }
 }
 

@@ -176,13 +176,7 @@ impl Shard {
     }
 
     /// Adds a version at a slot of a block. A slot of 64 or more is no address, and has none.
-    fn make(
-        &mut self,
-        obj: Obj,
-        block: u16,
-        slot: u8,
-        version: Version,
-    ) -> Result<(), Memory>
+    fn make(&mut self, obj: Obj, block: u16, slot: u8, version: Version) -> Result<(), Memory>
         requires { version.struck ≡ false }
         ensures ok { OnOk result (DoesAt (shown self.old) (shown self.new) (place obj block slot) version.pos (Makes version.txn version.row)) }
         ensures err { OnErr result (SameKept (shown self.new) (shown self.old)) }

@@ -7,7 +7,7 @@ use Rattle.row_blocks.proofs.block.Slot.strike.Goals as goal
 pub returns-in-Some : goal.returns-in-Some
 returns-in-Some c =
     strike_latest c.args.txn c.in-Some.index c.self.inside.versions.items c.index_mut.result.now
-      (subst (λ vs. IsLatest c.args.txn vs (Some c.in-Some.index)) c.deref.ensures.value c.in-Some.ensures) c.index_mut.ensures.value
+    (subst (λ vs. IsLatest c.args.txn vs (Some c.in-Some.index)) c.deref.ensures.value c.in-Some.ensures) c.index_mut.ensures.value
     ∙ ap (strike c.args.txn) c.self.view_is
 
 pub returns-in_default : goal.returns-in_default

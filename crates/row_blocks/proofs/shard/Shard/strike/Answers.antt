@@ -15,7 +15,7 @@ returns-in-Some c pos =
     let to = c.get_mut.follows.lender slots in
     let found : hash.get same_block from (o, b) ≡ Some known = subst (λ (k : ℕ). hash.get same_block from (k, b) ≡ Some known) c.get.ensures.value (sym c.in-Some.ensures.value) in
     let sets : SetsBlock (o, b) (hash.get same_block from) (hash.get same_block to) slots =
-          subst (λ (k : ℕ). SetsBlock (k, b) (hash.get same_block from) (hash.get same_block to) slots) c.get.ensures.value
-            ((c.get_mut.follows.holds slots).3 (ap is_some (sym c.in-Some.ensures.value))).0 in
+    subst (λ (k : ℕ). SetsBlock (k, b) (hash.get same_block from) (hash.get same_block to) slots) c.get.ensures.value
+    ((c.get_mut.follows.holds slots).3 (ap is_some (sym c.in-Some.ensures.value))).0 in
     does_at (shown c.args.self.now) _ o b c.args.slot pos (Strikes c.args.txn) (hash.get same_block from) (hash.get same_block to) slots refl refl (λ t. refl) (λ a. refl) (λ a. refl) sets
-      (known_slot (o, b) (hash.get same_block from) c.args.slot pos (Strikes c.args.txn) known slots _ found c.strike.ensures refl)
+    (known_slot (o, b) (hash.get same_block from) c.args.slot pos (Strikes c.args.txn) known slots _ found c.strike.ensures refl)
