@@ -1,5 +1,5 @@
 -- What the 64 shards keep together, and the committed rows that they give.
-use Rattle.std.specs.Prelude.{◌≡◌, ℕ, ◌<◌, ◌≤◌, List, map, slice_get, Option, Some, None}
+use Rattle.std.specs.Prelude.{◌≡◌, ℕ, ◌<◌, ◌≤◌, List, [], ◌∷◌, ◌++◌, map, slice_get, Option, Some, None}
 use Rattle.adg_base.specs.Address.{Place}
 use Rattle.adg_base.specs.Shard.{shard_of_block, shard_of_txn}
 use Rattle.adg_base.specs.declared.value.Value.{Value}
@@ -10,7 +10,7 @@ use Rattle.row_blocks.specs.declared.version.End.{End}
 use Rattle.row_blocks.specs.declared.shard.Shard.{Shard}
 use Rattle.row_blocks.specs.Pick.{Commits, counted, picked_by, picked}
 use Rattle.row_blocks.specs.Law.{IsLog}
-use Rattle.row_blocks.specs.Stands.{Kept, none_kept, IsSlot, HasApplied, StandsFor}
+use Rattle.row_blocks.specs.Stands.{Kept, none_kept, IsSlot, HasApplied, HasPassed, SameKept, StandsFor}
 use Rattle.row_blocks.specs.Shard.{shown}
 
 -- shards by their number
@@ -59,4 +59,34 @@ abbrev pub ShardsGiveRows : Type 0
 ShardsGiveRows =
     (log : List LogEntry) (frontier floor q : ℕ) → IsLog log frontier → floor ≤ q
     → (shards : Shards) → ((n : ℕ) → n < 64 → Serves (shards n) n log floor q)
+    → (a : Place) → IsSlot a → row_in shards q a ≡ rows_at log q a
+
+-- shards of which each has the number of its place
+abbrev pub AreNumbered : Shards → Type 0
+AreNumbered shards = (n : ℕ) → n < 64 → (shards n).number ≡ n
+
+-- The shards stand for a log and a floor, and have passed its first entries.
+pub record StandAt (shards : Shards) (log first : List LogEntry) (floor : ℕ) : Type 0 where
+  pub numbers : AreNumbered shards
+  pub each : (n : ℕ) → n < 64 → StandsFor (shards n) log floor
+  pub passed : (n : ℕ) → n < 64 → HasPassed (shards n) first
+
+-- with nothing applied they stand at the beginning of each log
+abbrev pub StandAtStart : Shards → Type 0
+StandAtStart shards = (log : List LogEntry) (frontier : ℕ) → IsLog log frontier → StandAt shards log [] 0
+
+-- one entry more: where they had passed the entries before it, they have passed it too
+abbrev pub PassesEntry : Shards → LogEntry → Shards → Type 0
+PassesEntry old e new =
+    (log : List LogEntry) (frontier floor : ℕ) → IsLog log frontier → (first rest : List LogEntry) → log ≡ first ++ e ∷ rest
+    → StandAt old log first floor → StandAt new log (first ++ e ∷ []) floor
+
+-- each shard keeps the same
+abbrev pub KeepSame : Shards → Shards → Type 0
+KeepSame new old = (n : ℕ) → n < 64 → SameKept (new n) (old n)
+
+-- once they have passed a log they give its committed rows at each SCN from the floor on
+abbrev pub PassedGiveRows : Type 0
+PassedGiveRows =
+    (shards : Shards) (log : List LogEntry) (frontier floor q : ℕ) → IsLog log frontier → StandAt shards log log floor → floor ≤ q
     → (a : Place) → IsSlot a → row_in shards q a ≡ rows_at log q a

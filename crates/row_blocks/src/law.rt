@@ -1,7 +1,7 @@
 //! The laws of the row store, each the promise of a function that does nothing.
 
 ghost use Rattle.row_blocks.specs.Law.{PickedIsCommitted};
-ghost use Rattle.row_blocks.specs.Shards.{PickGivesRow, ShardsGiveRows};
+ghost use Rattle.row_blocks.specs.Shards.{PassedGiveRows, PickGivesRow, ShardsGiveRows};
 
 /// The picked version is the committed row: in every sound log, at every address and SCN.
 pub fn picked_is_committed()
@@ -18,4 +18,9 @@ pub fn pick_gives_row()
 /// So the 64 shards give each committed row.
 pub fn shards_give_rows()
     ensures { ShardsGiveRows }
+{}
+
+/// Once the 64 shards have passed a log, they give its committed rows at each SCN from the floor on.
+pub fn passed_give_rows()
+    ensures { PassedGiveRows }
 {}

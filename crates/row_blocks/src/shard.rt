@@ -97,6 +97,7 @@ impl Shard {
         ensures already { result ≡ Ok Applied.Already → self.new ≡ self.old }
         ensures done { result ≡ Ok Applied.Done → entry.now.pos + 1 < 2 ^ 64 → SameKept (shown self.new) (after_entry (shown self.old) entry.now) }
         ensures stands { result ≡ Ok Applied.Done → entry.now.pos + 1 < 2 ^ 64 → StandsForMore (shown self.old) entry.now (shown self.new) }
+        ensures number { self.new.number ≡ self.old.number }
         ensures err { OnErr result (SameKept (shown self.new) (shown self.old)) }
     {
         if entry.pos < self.applied {
