@@ -6,3 +6,4 @@ pub mod Stands
 pub mod Strikes
 pub mod Slots
 pub mod Together
+pub mod ShardLists

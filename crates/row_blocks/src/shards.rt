@@ -1,19 +1,23 @@
-ghost use Rattle.std.specs.Prelude.{◌≡◌, ℕ, ◌+◌, if◌then◌else◌, length, is_some, option_copied};
+ghost use Rattle.std.specs.Prelude.{◌≡◌, ℕ, ◌+◌, ◌<◌, ◌^◌, if◌then◌else◌, length, is_some, option_copied, IfOk, OnOk, OnErr};
 ghost use Rattle.adg_model.specs.Database.{place};
 ghost use Rattle.row_blocks.specs.Pick.{candidate, later, picked_by};
 ghost use Rattle.row_blocks.specs.Best.{shown};
 ghost use Rattle.row_blocks.specs.Shard.{at_slot};
-ghost use Rattle.row_blocks.specs.Shards.{shards_in, versions_in, end_in, commits_in, row_in};
+ghost use Rattle.row_blocks.specs.Stands.{none_kept};
+ghost use Rattle.row_blocks.specs.Shards.{shards_in, versions_in, end_in, commits_in, row_in, AreNumbered, KeepSame, PassesEntry, StandAtStart};
 
 use crate::block::Block;
 use crate::pick::{Best, told, with_version};
 use crate::shard::Shard;
 use crate::version::{End, Version};
 use adg_base::address::Addr;
+use adg_base::log::LogEntry;
+use adg_base::memory::Memory;
 use adg_base::number::{Obj, Scn, Txn};
 use adg_base::row::Row;
-use adg_base::shard::{block_shard, txn_shard};
+use adg_base::shard::{SHARDS, block_shard, shard_of, txn_shard};
 use adg_base::steps::Steps;
+use std::alloc::Global;
 use std::sync::ledger::Ledger;
 
 /// A block, from its shard among the 64, where it has a version.
@@ -82,4 +86,32 @@ pub fn row_at<'a, L: Ledger>(
         Some(block) => pick_in(block.versions(addr.slot()), shards, q, steps),
         None => None,
     }
+}
+
+/// The 64 shards with nothing applied, each at the place of its number.
+pub fn new_shards(alloc: Global) -> Result<Vec<Shard>, Memory>
+    ensures count { IfOk result (λ shards. length shards.items ≡ 64) }
+    ensures empty { IfOk result (λ shards. KeepSame (shards_in shards.items) none_kept) }
+    ensures stand { IfOk result (λ shards. StandAtStart (shards_in shards.items)) }
+{
+    let mut shards = Vec::with_capacity(alloc, SHARDS as usize)?;
+    for number in 0..SHARDS {
+        shards.push(Shard::new(alloc, number))?;
+    }
+    Ok(shards)
+}
+
+/// Applies an entry to its shard, if it has one.
+pub fn apply_in(shards: &mut [Shard], entry: &LogEntry) -> Result<(), Memory>
+    requires count { length shards.old ≡ 64 }
+    requires numbers { AreNumbered (shards_in shards.old) }
+    ensures count { length shards.new ≡ 64 }
+    ensures numbers { AreNumbered (shards_in shards.new) }
+    ensures passes { OnOk result (entry.now.pos + 1 < 2 ^ 64 → PassesEntry (shards_in shards.old) entry.now (shards_in shards.new)) }
+    ensures err { OnErr result (KeepSame (shards_in shards.new) (shards_in shards.old)) }
+{
+    if let Some(number) = shard_of(&entry.vector) {
+        shards[number as usize].apply(entry)?;
+    }
+    Ok(())
 }
