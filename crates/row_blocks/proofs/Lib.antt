@@ -7,3 +7,4 @@ pub mod Strikes
 pub mod Slots
 pub mod Together
 pub mod ShardLists
+pub mod Lending

@@ -40,7 +40,7 @@ kept_refl k = record { number = refl; applied = refl; versions = λ a h. refl; e
 
 -- one more new shard
 pub push_new : (xs : List Shard) (x : Shard) (m : ℕ) → length xs ≡ m → ((n : ℕ) → n < m → SameKept (shards_in xs n) (none_kept n)) → SameKept (shown x) (none_kept m)
-  → (n : ℕ) → n < m + 1 → SameKept (shards_in (xs ++ x ∷ []) n) (none_kept n)
+    → (n : ℕ) → n < m + 1 → SameKept (shards_in (xs ++ x ∷ []) n) (none_kept n)
 push_new xs x m count h k n l = by_case (cases_eq n m)
   where
     by_case : ((n ≡ m) ⊎ (n ≡ m → ⊥)) → SameKept (shards_in (xs ++ x ∷ []) n) (none_kept n)
@@ -63,7 +63,7 @@ module _ (xs : List Shard) (i : ℕ) (d is : Shard) (within : i < length xs) whe
     where
       by_case : ((n ≡ i) ⊎ (n ≡ i → ⊥)) → (shards_in (slice_set xs i is) n).number ≡ n
       by_case (inl k) = ap (λ j. (shards_in (slice_set xs i is) j).number) k ∙ ap (λ (x : Kept). x.number) placed_new ∙ e
-        ∙ ap (λ (x : Kept). x.number) (sym at_place) ∙ ap (λ j. (shards_in xs j).number) (sym k) ∙ h n l
+          ∙ ap (λ (x : Kept). x.number) (sym at_place) ∙ ap (λ j. (shards_in xs j).number) (sym k) ∙ h n l
       by_case (inr k) = ap (λ (x : Kept). x.number) (others n k) ∙ h n l
 
   pub set_same : SameKept (shown is) (shown (get_or xs i d)) → KeepSame (shards_in (slice_set xs i is)) (shards_in xs)

@@ -124,9 +124,9 @@ new_stands kept n same log frontier h =
 
 -- A shard that passes an entry, one of its own or not.
 one_passes : (old new : Kept) (n : ℕ) (e : LogEntry) (log : List LogEntry) (frontier floor : ℕ) → IsLog log frontier → (first rest : List LogEntry) → log ≡ first ++ e ∷ rest
-  → old.number ≡ n → StandsFor old log floor → HasPassed old first
-  → (is_own n e ≡ false → SameKept new old) → (is_own n e ≡ true → old.applied ≤ e.pos → SameKept new (after_entry old e))
-  → (new.number ≡ n) × StandsFor new log floor × HasPassed new (first ++ e ∷ [])
+    → old.number ≡ n → StandsFor old log floor → HasPassed old first
+    → (is_own n e ≡ false → SameKept new old) → (is_own n e ≡ true → old.applied ≤ e.pos → SameKept new (after_entry old e))
+    → (new.number ≡ n) × StandsFor new log floor × HasPassed new (first ++ e ∷ [])
 one_passes old new n e log frontier floor h first rest whole number stands passed other own = by_test (is_own n e) refl
   where
     places : Placed 0 (first ++ e ∷ rest)
@@ -135,27 +135,31 @@ one_passes old new n e log frontier floor h first rest whole number stands passe
     same_passed : (x y : Kept) (es : List LogEntry) → SameKept x y → HasPassed y es → HasPassed x es
     same_passed x y es e h = record {
       applied = subst (λ p. AllByRecursion (λ z. is_own x.number z ≡ true → z.pos < p) es) (sym e.applied)
-        (subst (λ m. AllByRecursion (λ z. is_own m z ≡ true → z.pos < y.applied) es) (sym e.number) h.applied);
+          (subst (λ m. AllByRecursion (λ z. is_own m z ≡ true → z.pos < y.applied) es) (sym e.number) h.applied);
       upto = subst (λ p. p ≤ length es) (sym e.applied) h.upto;
     }
 
     by_test : (b : Bool) → is_own n e ≡ b → (new.number ≡ n) × StandsFor new log floor × HasPassed new (first ++ e ∷ [])
     by_test false k =
-        let same = other k in
-        (same.number ∙ number, stands_same new old log floor same stands,
-         same_passed new old (first ++ e ∷ []) same (passed_other old first e (ap (λ m. is_own m e) number ∙ k) passed))
+        let same = other k in (
+          same.number ∙ number,
+          stands_same new old log floor same stands,
+          same_passed new old (first ++ e ∷ []) same (passed_other old first e (ap (λ m. is_own m e) number ∙ k) passed),
+        )
     by_test true k =
         let mine : is_own old.number e ≡ true = ap (λ m. is_own m e) number ∙ k in
         let next : IsNext old log e = subst (λ l. IsNext old l e) (sym whole) (passed_next old first rest e places passed mine) in
-        let same = own k next.new in
-        (same.number ∙ number, stands_same new (after_entry old e) log floor same (stands_next log frontier h old floor e stands next),
-         same_passed new (after_entry old e) (first ++ e ∷ []) same (passed_own old first e (position first rest e places) passed))
+        let same = own k next.new in (
+          same.number ∙ number,
+          stands_same new (after_entry old e) log floor same (stands_next log frontier h old floor e stands next),
+          same_passed new (after_entry old e) (first ++ e ∷ []) same (passed_own old first e (position first rest e places) passed),
+        )
 
 -- so do all, where each but the entry's own shard keeps the same
 pub all_pass : (old new : Shards) (e : LogEntry)
-  → ((n : ℕ) → n < 64 → is_own n e ≡ false → SameKept (new n) (old n))
-  → ((n : ℕ) → n < 64 → is_own n e ≡ true → (old n).applied ≤ e.pos → SameKept (new n) (after_entry (old n) e))
-  → PassesEntry old e new
+    → ((n : ℕ) → n < 64 → is_own n e ≡ false → SameKept (new n) (old n))
+    → ((n : ℕ) → n < 64 → is_own n e ≡ true → (old n).applied ≤ e.pos → SameKept (new n) (after_entry (old n) e))
+    → PassesEntry old e new
 all_pass old new e other own log frontier floor h first rest whole s = record {
   numbers = λ n k. (one n k).0;
   each = λ n k. (one n k).1;
@@ -175,11 +179,11 @@ start_stands shards same log frontier h = record {
 pub passed_give_rows : PassedGiveRows
 passed_give_rows shards log frontier floor q h s l a slot =
     shards_give_rows log frontier floor q h l shards
-      (λ n k. record { number = s.numbers n k; stands = s.each n k; applied = passed_all (shards n) log q (s.passed n k) }) a slot
+    (λ n k. record { number = s.numbers n k; stands = s.each n k; applied = passed_all (shards n) log q (s.passed n k) }) a slot
 
 -- and they stand for a longer log, where they have passed what was there
 pub stand_continued : (shards : Shards) (log entries first : List LogEntry) (floor old new : ℕ) → IsLog log old → IsContinuation log old entries new → floor ≤ old
-  → StandAt shards log first floor → StandAt shards (log ++ entries) first floor
+    → StandAt shards log first floor → StandAt shards (log ++ entries) first floor
 stand_continued shards log entries first floor old new h c l s = record {
   numbers = s.numbers;
   each = λ n k. stands_continued (shards n) log entries floor old new h c l (s.each n k);

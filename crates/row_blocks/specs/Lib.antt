@@ -6,3 +6,4 @@ pub mod Best
 pub mod Block
 pub mod Shard
 pub mod Shards
+pub mod Lent

@@ -90,7 +90,7 @@ impl Model for Block {
 
 impl Block {
     /// A block without versions.
-    pub fn new(alloc: Global) -> Result<Block, Memory>
+    pub(crate) fn new(alloc: Global) -> Result<Block, Memory>
         ensures { IfOk result (λ block. (slot : ℕ) → slice_index_or block slot [] ≡ []) }
     {
         let mut slots = Vec::with_capacity(alloc, SLOTS as usize)?;
@@ -109,7 +109,7 @@ impl Block {
     }
 
     /// Adds a version at a slot.
-    pub fn push(&mut self, slot: u8, version: Version) -> Result<(), Memory>
+    pub(crate) fn push(&mut self, slot: u8, version: Version) -> Result<(), Memory>
         requires { slot < 64 }
         ensures ok { OnOk result (SetsSlot self.old self.new slot (slice_index_or self.old slot [] ++ version ∷ [])) }
         ensures err { OnErr result (self.new ≡ self.old) }
@@ -118,7 +118,7 @@ impl Block {
     }
 
     /// Strikes the latest version of a transaction at a slot that is not struck.
-    pub fn strike(&mut self, slot: u8, txn: Txn)
+    pub(crate) fn strike(&mut self, slot: u8, txn: Txn)
         requires { slot < 64 }
         ensures { SetsSlot self.old self.new slot (strike txn (slice_index_or self.old slot [])) }
     {

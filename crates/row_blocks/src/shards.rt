@@ -1,12 +1,15 @@
-ghost use Rattle.std.specs.Prelude.{◌≡◌, ℕ, ◌+◌, ◌<◌, ◌^◌, if◌then◌else◌, length, is_some, option_copied, IfOk, OnOk, OnErr};
+ghost use Rattle.std.specs.Prelude.{◌≡◌, ℕ, ◌+◌, ◌<◌, ◌^◌, ◌++◌, if◌then◌else◌, length, is_some, option_copied, option_to_list, IfOk, OnOk, OnErr};
+ghost use Rattle.std.specs.List.{filter_map};
 ghost use Rattle.adg_model.specs.Database.{place};
+ghost use Rattle.adg_model.specs.Query.{block_places};
 ghost use Rattle.row_blocks.specs.Pick.{candidate, later, picked_by};
 ghost use Rattle.row_blocks.specs.Best.{shown};
 ghost use Rattle.row_blocks.specs.Shard.{at_slot};
 ghost use Rattle.row_blocks.specs.Stands.{none_kept};
 ghost use Rattle.row_blocks.specs.Shards.{shards_in, versions_in, end_in, commits_in, row_in, AreNumbered, KeepSame, PassesEntry, StandAtStart};
+ghost use Rattle.row_blocks.specs.Lent.{lent, rows_in_slots};
 
-use crate::block::Block;
+use crate::block::{Block, SLOTS};
 use crate::pick::{Best, told, with_version};
 use crate::shard::Shard;
 use crate::version::{End, Version};
@@ -112,6 +115,54 @@ pub fn apply_in(shards: &mut [Shard], entry: &LogEntry) -> Result<(), Memory>
 {
     if let Some(number) = shard_of(&entry.vector) {
         shards[number as usize].apply(entry)?;
+    }
+    Ok(())
+}
+
+/// Adds the rows of a block at `q` to `rows`, in the order of their slots. They are lent, and none
+/// is copied. After want of memory `rows` is of no more use.
+pub fn read_block<'a, L: Ledger>(
+    shards: &'a [Shard],
+    obj: Obj,
+    block: u16,
+    q: Scn,
+    rows: &mut Vec<&'a Row>,
+    steps: &mut Steps<L>,
+) -> Result<(), Memory>
+    requires { length shards.now ≡ 64 }
+    ensures rows { OnOk result (lent rows.new.items ≡ lent rows.old.items ++ filter_map (row_in (shards_in shards.now) q) (block_places obj block)) }
+    ensures cost { OnOk result (steps.new + length rows.old.items ≡ steps.old + length rows.new.items) }
+{
+    match block_of(shards, obj, block) {
+        Some(found) => read_slots(found, shards, q, rows, steps),
+        None => Ok(()),
+    }
+}
+
+/// Adds the rows of a block that has versions.
+fn read_slots<'a, L: Ledger>(
+    found: &'a Block,
+    shards: &[Shard],
+    q: Scn,
+    rows: &mut Vec<&'a Row>,
+    steps: &mut Steps<L>,
+) -> Result<(), Memory>
+    requires { length shards.now ≡ 64 }
+    ensures rows { OnOk result (lent rows.new.items ≡ lent rows.old.items ++ rows_in_slots (commits_in (shards_in shards.now) q) found.now 64) }
+    ensures cost { OnOk result (steps.new + length rows.old.items ≡ steps.old + length rows.new.items) }
+{
+    for slot in 0..SLOTS {
+        add_row(pick_in(found.versions(slot), shards, q, steps), rows)?;
+    }
+    Ok(())
+}
+
+fn add_row<'a>(row: Option<&'a Row>, rows: &mut Vec<&'a Row>) -> Result<(), Memory>
+    ensures rows { OnOk result (lent rows.new.items ≡ lent rows.old.items ++ option_to_list (option_copied row.entry)) }
+    ensures count { OnOk result (length rows.new.items ≡ length rows.old.items + (if is_some row.entry then 1 else 0)) }
+{
+    if let Some(row) = row {
+        rows.push(row)?;
     }
     Ok(())
 }

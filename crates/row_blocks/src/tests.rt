@@ -1,15 +1,15 @@
-ghost use Rattle.std.specs.Prelude.{◌≡◌, ◌+◌, ◌<◌, if◌then◌else◌};
+ghost use Rattle.std.specs.Prelude.{◌≡◌, ◌+◌, ◌<◌, if◌then◌else◌, length, IfOk};
 
 use crate::pick::pick;
 use crate::shard::{Applied, Shard};
-use crate::shards::row_at;
+use crate::shards::{apply_in, new_shards, read_block, row_at};
 use crate::version::{End, Version};
 use adg_base::address::Addr;
 use adg_base::list::List;
 use adg_base::log::LogEntry;
 use adg_base::number::{Obj, Pos, Scn, Txn};
 use adg_base::row::Row;
-use adg_base::shard::{SHARDS, shard_of};
+use adg_base::shard::shard_of;
 use adg_base::steps::Steps;
 use adg_base::value::{ColKind, Value};
 use adg_base::vector::Vector;
@@ -86,14 +86,6 @@ fn log(alloc: Global, deeds: &[(u64, u64, Deed)]) -> Result<Vec<LogEntry>, Fail>
     Ok(entries)
 }
 
-fn empty_shards(alloc: Global) -> Result<Vec<Shard>, Fail> {
-    let mut shards = Vec::new(alloc);
-    for number in 0..SHARDS {
-        shards.push(Shard::new(alloc, number))?;
-    }
-    Ok(shards)
-}
-
 /// Applies an entry to its shard.
 fn apply(shards: &mut [Shard], entry: &LogEntry) -> Result<Applied, Fail> {
     let number = shard_of(&entry.vector).ok_or("no shard")?;
@@ -105,18 +97,35 @@ fn apply(shards: &mut [Shard], entry: &LogEntry) -> Result<Applied, Fail> {
     }
 }
 
-/// The number in the first column of the row at t1.0.0.
+/// The 64 shards after a log.
+fn applied(alloc: Global, entries: &[LogEntry]) -> Result<Vec<Shard>, Fail>
+    ensures { IfOk result (λ shards. length shards.items ≡ 64) }
+{
+    let mut shards = new_shards(alloc)?;
+    for entry in entries {
+        apply_in(&mut shards, entry)?;
+    }
+    Ok(shards)
+}
+
+/// The number in the row at t1.0.0, which is the only row of its block.
 fn number_at<L: Ledger>(
+    rt: &impl Abort,
+    alloc: Global,
     shards: &[Shard],
     q: u64,
     steps: &mut Steps<L>,
-) -> Result<Option<i64>, Fail> {
-    if shards.len() != 64 {
-        Err("few shards")?
-    }
-    let addr = Addr::new(Obj::new(1).ok_or("obj")?, 0, 0).ok_or("addr")?;
+) -> Result<Option<i64>, Fail>
+    requires { length shards.now ≡ 64 }
+{
+    let obj = Obj::new(1).ok_or("obj")?;
+    let addr = Addr::new(obj, 0, 0).ok_or("addr")?;
     let q = Scn::new(q).ok_or("scn")?;
-    number_in(row_at(shards, addr, q, steps))
+    let mut rows = Vec::new(alloc);
+    read_block(shards, obj, 0, q, &mut rows, steps)?;
+    let number = number_in(rows.pop())?;
+    assert!(rt; rows.is_empty() && number_in(row_at(shards, addr, q, steps))? == number);
+    Ok(number)
 }
 
 /// A log, as SCN, transaction and deed, and the row at some SCNs after it.
@@ -185,38 +194,38 @@ fn assert_case<L: Ledger>(
     case: &Case,
     steps: &mut Steps<L>,
 ) -> Result<(), Fail> {
-    let mut shards = empty_shards(alloc)?;
-    let entries = log(alloc, case.deeds)?;
-    for entry in &entries {
-        assert!(rt; apply(&mut shards, entry)? == Applied::Done);
-    }
-    for entry in &entries {
-        assert!(rt; apply(&mut shards, entry)? == Applied::Already);
-    }
+    let shards = applied(alloc, &log(alloc, case.deeds)?)?;
     for (q, number) in case.rows {
-        assert!(rt; number_at(&shards, *q, steps)? == *number, "at {q}");
+        assert!(rt;
+            number_at(rt, alloc, &shards, *q, steps)? == *number,
+            "at {q}"
+        );
     }
     Ok(())
 }
 
-/// 4,000 puts of one transaction at one address, and 2,000 undos.
+/// The deed of each place in a log of 4,000 puts at one address, 2,000 undos and a commit.
+fn deep_deed(place: u64) -> Deed {
+    match place {
+        0..4000 => Put(place as i64 + 1),
+        4000..6000 => Undo,
+        _ => Commit,
+    }
+}
+
 fn assert_deep_redo<L: Ledger>(
     rt: &impl Abort,
     alloc: Global,
     steps: &mut Steps<L>,
 ) -> Result<(), Fail> {
-    let mut shards = empty_shards(alloc)?;
-    for number in 0..6001u64 {
-        let deed = match number {
-            0..4000 => Put(number as i64 + 1),
-            4000..6000 => Undo,
-            _ => Commit,
-        };
-        let scn = if number < 6000 { 12 } else { 13 };
-        apply(&mut shards, &entry(number, scn, vector(alloc, 7, deed)?)?)?;
+    let mut entries = Vec::new(alloc);
+    for place in 0..6001u64 {
+        let vector = vector(alloc, 7, deep_deed(place))?;
+        entries.push(entry(place, place / 6000 + 12, vector)?)?;
     }
-    assert!(rt; number_at(&shards, 12, steps)? == None);
-    assert!(rt; number_at(&shards, 13, steps)? == Some(2000));
+    let shards = applied(alloc, &entries)?;
+    assert!(rt; number_at(rt, alloc, &shards, 12, steps)? == None);
+    assert!(rt; number_at(rt, alloc, &shards, 13, steps)? == Some(2000));
     Ok(())
 }
 
@@ -242,11 +251,17 @@ fn assert_apart<L: Ledger>(
     steps: &mut Steps<L>,
 ) -> Result<(), Fail> {
     let entries = log(alloc, &APART)?;
-    let mut shards = empty_shards(alloc)?;
+    let mut shards = new_shards(alloc)?;
     for (index, q, number) in &ORDER {
         let entry = entries.get(*index).ok_or("entry")?;
         assert!(rt; apply(&mut shards, entry)? == Applied::Done);
-        assert!(rt; number_at(&shards, *q, steps)? == *number, "at {q}");
+        if shards.len() != 64 {
+            Err("few shards")?
+        }
+        assert!(rt;
+            number_at(rt, alloc, &shards, *q, steps)? == *number,
+            "at {q}"
+        );
     }
     Ok(())
 }
@@ -403,7 +418,7 @@ fn assert_kinds(rt: &impl Abort, alloc: Global) -> Result<(), Fail> {
         let pos = entries.len() as u64;
         entries.push(entry(pos, 11, vector)?)?;
     }
-    let mut shards = empty_shards(alloc)?;
+    let mut shards = new_shards(alloc)?;
     for entry in &entries {
         assert!(rt; apply(&mut shards, entry)? == Applied::Done);
         assert!(rt; apply(&mut shards, entry)? == Applied::Already);

@@ -14,7 +14,7 @@ loop-number-preserved c =
     record {
       count = ap length items ∙ longer ∙ ap (λ n. n + 1) count;
       empty = subst (λ xs. (n : ℕ) → n < c.loop-number.number + 1 → SameKept (shards_in xs n) (none_kept n)) (sym items)
-        (push_new c.loop-number.shards.items c.new.result c.loop-number.number count i.empty c.new.ensures.empty)
+          (push_new c.loop-number.shards.items c.new.result c.loop-number.number count i.empty c.new.ensures.empty);
     }
 
 pub returns-clause-stand : goal.returns-clause-stand
