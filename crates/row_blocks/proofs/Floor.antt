@@ -1,16 +1,15 @@
 -- A pick at an SCN above a floor: an open version that counts wins, else the floor's pick stands.
-use Rattle.std.proofs.Common.{◌≡◌, ℕ, ◌+◌, ◌<◌, ◌≤◌, ◌==◌, nat_lt, nat_le, Bool, true, false, not, cond, ◌&&◌, ◌||◌, List, [], ◌∷◌, ◌++◌, map, filter, Option, Some, None, refl, sym, ap, ap₂, ◌∙◌, arith, true≢false}
+use Rattle.std.proofs.Common.{◌≡◌, ℕ, ◌<◌, ◌≤◌, nat_le, Bool, true, false, not, cond, ◌&&◌, ◌||◌, List, [], ◌∷◌, ◌++◌, filter, Option, Some, None, refl, sym, ap, ap₂, ◌∙◌, arith, true≢false}
 use Rattle.std.specs.List.{list_any}
 use Rattle.std.proofs.lemmas.Bool.{le-leb, leb-true, ltb-true, or_parts}
 use Rattle.std.proofs.lemmas.Bool.Decides.{nat_tests}
 use Rattle.std.proofs.lemmas.Option.{none-some, same_Some}
 use Rattle.std.proofs.lemmas.List.Elements.{filter-append}
-use Rattle.adg_base.specs.declared.value.Value.{Value}
 use Rattle.row_blocks.specs.declared.version.Version.{Version}
 use Rattle.row_blocks.specs.declared.version.End.{End}
-use Rattle.row_blocks.specs.Pick.{Commits, counted, Candidate, candidate, is_upto, later, latest, row_of, latest_by, picked_by}
+use Rattle.row_blocks.specs.Pick.{Commits, counted, Candidate, candidate, is_upto, later, row_of, latest_by, picked_by}
 use Rattle.row_blocks.specs.Versions.{Deed, Makes, Strikes, stands, strike, after_deed, is_late}
-use Rattle.row_blocks.proofs.Picked.{later_none, later_wins, later_loses, candidate_struck, stands_parts}
+use Rattle.row_blocks.proofs.Picked.{later_wins, later_loses, candidate_struck, stands_parts}
 use Rattle.row_blocks.proofs.Walked.{OfDeed, late_counted}
 
 -- versions that are not struck and whose transaction has no end up to the floor

@@ -1,13 +1,13 @@
 -- Lemmas on the latest of some versions.
-use Rattle.std.proofs.Common.{◌≡◌, length, drop, get_or, add-one, drop-cons, ℕ, ◌+◌, ◌<◌, ◌≤◌, ◌==◌, nat_lt, nat_le, Bool, true, false, not, cond, ◌&&◌, List, [], ◌∷◌, ◌++◌, map, filter, Option, Some, None, refl, sym, ap, ap₂, ◌∙◌, arith, append-nil}
-use Rattle.std.specs.List.{list_any, AllByRecursion}
+use Rattle.std.proofs.Common.{◌≡◌, length, drop, get_or, add-one, drop-cons, ℕ, ◌+◌, ◌<◌, ◌≤◌, ◌==◌, Bool, true, false, not, cond, ◌&&◌, List, [], ◌∷◌, ◌++◌, Option, Some, None, refl, sym, ap, ap₂, ◌∙◌, arith, append-nil}
+use Rattle.std.specs.List.{list_any}
 use Rattle.std.proofs.lemmas.Bool.{eqb-true}
 use Rattle.std.proofs.lemmas.Bool.Decides.{nat_tests}
 use Rattle.adg_base.specs.declared.value.Value.{Value}
 use Rattle.row_blocks.specs.declared.version.Version.{Version}
 use Rattle.row_blocks.specs.declared.version.End.{End}
-use Rattle.row_blocks.specs.Pick.{Commits, counted, Candidate, candidate, is_upto, later, latest, row_of, latest_by, picked_by, candidates, picked}
-use Rattle.row_blocks.specs.Versions.{Deed, Makes, Strikes, stands, strike, after_deed, earlier, is_late}
+use Rattle.row_blocks.specs.Pick.{Commits, Candidate, candidate, is_upto, later, latest, row_of, latest_by, candidates}
+use Rattle.row_blocks.specs.Versions.{stands, strike}
 
 -- commits that are the same for each transaction give the same pick
 pub latest_by-same : (c d : Commits) → ((t : ℕ) → c t ≡ d t) → (vs : List Version) → latest_by c vs ≡ latest_by d vs

@@ -1,22 +1,21 @@
 -- The picked version is the committed row, also where some later entries are there already.
-use Rattle.std.proofs.Common.{◌≡◌, ℕ, ◌+◌, ◌<◌, ◌≤◌, ◌==◌, nat_lt, nat_le, Bool, true, false, not, cond, ◌&&◌, List, [], ◌∷◌, ◌++◌, filter, length, Option, Some, None, refl, sym, ap, ap₂, ◌∙◌, arith, append-nil, true≢false, subst}
+use Rattle.std.proofs.Common.{◌≡◌, ℕ, ◌+◌, ◌<◌, ◌≤◌, Bool, true, false, cond, List, [], ◌∷◌, ◌++◌, filter, length, Option, Some, None, refl, sym, ap, ◌∙◌, true≢false, subst}
 use Rattle.std.specs.List.{AllByRecursion}
 use Rattle.std.specs.Option.{is_some}
 use Rattle.std.proofs.lemmas.Option.{none-some}
 use Rattle.std.proofs.lemmas.List.Elements.{filter-append}
 use Rattle.adg_base.specs.Address.{Place}
 use Rattle.adg_base.specs.declared.log.LogEntry.{LogEntry}
-use Rattle.adg_model.specs.Log.{upto}
-use Rattle.adg_model.specs.Database.{Rows, Database, no_database, after, walked, database, rows_at}
+use Rattle.adg_model.specs.Database.{Database, no_database, after, walked, database, rows_at}
 use Rattle.adg_model.specs.Sound.{SoundFrom}
 use Rattle.adg_model.proofs.LogLaws.{each_weaker}
 use Rattle.row_blocks.specs.declared.version.Version.{Version}
 use Rattle.row_blocks.specs.declared.version.End.{End}
-use Rattle.row_blocks.specs.Pick.{Commits, counted, Candidate, candidate, later, latest, row_of, latest_by, picked_by}
-use Rattle.row_blocks.specs.Versions.{Deed, Makes, Strikes, deed_at, after_deed, versions_after, versions_of, end_by, earlier, end_of, is_late}
+use Rattle.row_blocks.specs.Pick.{Commits, counted, row_of, latest_by, picked_by}
+use Rattle.row_blocks.specs.Versions.{Deed, Makes, Strikes, deed_at, after_deed, versions_after, versions_of, earlier, end_of, is_late}
 use Rattle.row_blocks.specs.Law.{IsLog, commits_at, PickedIsCommitted}
 use Rattle.row_blocks.proofs.Picked.{latest_by-same, latest_by-push, latest_by-strike}
-use Rattle.row_blocks.proofs.Walked.{IsTied, tied_walk, ends_after, ends_after-is, end_of-append, placed, Placed, Splits, splits, all_above, OfDeed, of_deed, end_of_above, late_counted, IsLateAt, late_walk}
+use Rattle.row_blocks.proofs.Walked.{IsTied, tied_walk, ends_after, ends_after-is, end_of-append, placed, Placed, Splits, splits, OfDeed, of_deed, end_of_above, late_counted, IsLateAt, late_walk}
 
 -- the transactions of an entry's deed at an address do not count
 abbrev pub Spares : Commits → Place → LogEntry → Type 0

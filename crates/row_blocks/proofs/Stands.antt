@@ -1,9 +1,9 @@
 -- Lemmas on what a shard stands for.
-use Rattle.std.proofs.Common.{◌≡◌, ℕ, ◌+◌, ◌<◌, ◌≤◌, ◌==◌, nat_lt, nat_le, Bool, true, false, not, cond, ◌&&◌, List, [], ◌∷◌, ◌++◌, filter, length, Option, Some, None, refl, sym, ap, ap₂, ◌∙◌, arith, append-nil, length-append, true≢false, subst, ◌⊎◌, inl, inr}
+use Rattle.std.proofs.Common.{◌≡◌, ℕ, ◌+◌, ◌<◌, ◌≤◌, ◌==◌, nat_lt, Bool, true, false, not, cond, ◌&&◌, List, [], ◌∷◌, ◌++◌, filter, length, Option, Some, None, refl, sym, ap, ap₂, ◌∙◌, arith, append-nil, length-append, true≢false, subst, ◌⊎◌, inl, inr}
 use Rattle.std.specs.List.{AllByRecursion}
 use Rattle.std.specs.Option.{is_some}
 use Rattle.std.proofs.lemmas.List.Elements.{filter-append}
-use Rattle.std.proofs.lemmas.Bool.{lt-ltb, le-ltb, ltb-true, ltb-false, cases_lt, eq-eqb, eqb-true, and_from}
+use Rattle.std.proofs.lemmas.Bool.{lt-ltb, le-ltb, ltb-false, cases_lt, eq-eqb, eqb-true, and_from}
 use Rattle.std.proofs.lemmas.Bool.Decides.{nat_tests}
 use Rattle.std.proofs.lemmas.Option.{none-some, same_Some}
 use Rattle.adg_base.specs.Address.{Place}
@@ -17,13 +17,13 @@ use Rattle.adg_model.proofs.RowLaws.{rows_stop_at_scn}
 use Rattle.adg_model.proofs.LogLaws.{each_weaker, each-append}
 use Rattle.row_blocks.specs.declared.version.Version.{Version}
 use Rattle.row_blocks.specs.declared.version.End.{End}
-use Rattle.row_blocks.specs.Pick.{Commits, counted, row_of, latest_by, picked_by}
-use Rattle.row_blocks.specs.Versions.{Deed, Makes, Strikes, deed_at, after_deed, versions_after, versions_of, end_by, earlier, end_of, is_late}
+use Rattle.row_blocks.specs.Pick.{counted, row_of, picked_by}
+use Rattle.row_blocks.specs.Versions.{Deed, deed_at, after_deed, versions_of, end_by, earlier, end_of, is_late}
 use Rattle.row_blocks.specs.Law.{IsLog, commits_at}
 use Rattle.row_blocks.specs.Stands.{Kept, same_shard, is_own, own_below, HasApplied, IsSlot, is_open, StandsFor, HoldsAll, IsNext, after_entry, none_kept, SameKept, StandsForMore}
 use Rattle.row_blocks.proofs.Picked.{latest_by-same}
 use Rattle.row_blocks.proofs.Walked.{earlier_none, end_of-append, placed, Placed, OfDeed, of_deed, late_counted, end_of_above, end_by_above, all_above, Splits, splits}
-use Rattle.row_blocks.proofs.PickedLaw.{deed_keeps, versions_after-append, Keeps, each_and, each_filter, each_parts, placed_parts, late_deeds, picked_of_some}
+use Rattle.row_blocks.proofs.PickedLaw.{deed_keeps, versions_after-append, Keeps, each_and, each_filter, placed_parts, late_deeds, picked_of_some}
 use Rattle.row_blocks.proofs.Floor.{picked_through, open_deed, IsParted}
 
 -- an entry that does something at an address of a shard is one of its own

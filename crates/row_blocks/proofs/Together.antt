@@ -1,5 +1,5 @@
 -- The 64 shards give the committed rows, and how a shard passes the entries of a log one after another.
-use Rattle.std.proofs.Common.{◌≡◌, ℕ, ◌+◌, ◌<◌, ◌≤◌, ◌%◌, Bool, true, false, not, cond, ◌&&◌, filter, List, [], ◌∷◌, ◌++◌, map, length, Option, Some, None, refl, sym, ap, ap₂, ◌∙◌, arith, subst, true≢false, length-append}
+use Rattle.std.proofs.Common.{◌≡◌, ℕ, ◌+◌, ◌<◌, ◌≤◌, Bool, true, false, not, cond, filter, List, [], ◌∷◌, ◌++◌, map, length, Option, Some, None, refl, sym, ap, ap₂, ◌∙◌, arith, subst, true≢false, length-append}
 use Rattle.std.specs.List.{AllByRecursion}
 use Rattle.std.proofs.lemmas.Bool.{ltb-true, lt-ltb, and_parts, and_from}
 use Rattle.adg_base.specs.Address.{Place}
@@ -11,14 +11,14 @@ use Rattle.adg_model.specs.Sound.{ScnsWithin, IsContinuation}
 use Rattle.adg_model.proofs.LogLaws.{each_weaker, each-append, numbered-append}
 use Rattle.row_blocks.specs.declared.version.Version.{Version}
 use Rattle.row_blocks.specs.declared.version.End.{End}
-use Rattle.row_blocks.specs.Pick.{Commits, counted, candidate, row_of, latest, latest_by, picked_by, candidates, picked}
+use Rattle.row_blocks.specs.Pick.{counted, candidate, row_of, latest, picked_by, candidates, picked}
 use Rattle.row_blocks.specs.Law.{IsLog, commits_at}
 use Rattle.row_blocks.specs.Stands.{Kept, none_kept, is_own, own_below, is_open, IsSlot, HasApplied, StandsFor, HoldsAll, IsNext, after_entry, SameKept, HasPassed, StandsFromStart}
-use Rattle.row_blocks.specs.Shards.{Shards, versions_in, end_in, commits_in, row_in, Serves, PickGivesRow, ShardsGiveRows, StandAt, StandAtStart, PassesEntry, KeepSame, PassedGiveRows}
+use Rattle.row_blocks.specs.Shards.{Shards, Serves, PickGivesRow, ShardsGiveRows, StandAt, StandAtStart, PassesEntry, KeepSame, PassedGiveRows}
 use Rattle.row_blocks.specs.Versions.{versions_of, end_of, is_late}
 use Rattle.row_blocks.proofs.Picked.{latest_by-same}
 use Rattle.row_blocks.proofs.Walked.{Placed, placed, all_above}
-use Rattle.row_blocks.proofs.Stands.{stands_picked, stands_end, stands_next, stands_longer, holds_longer, none_holds, none_stands_for, stands_same, holds_same, placed_rest, position}
+use Rattle.row_blocks.proofs.Stands.{stands_picked, stands_end, stands_next, stands_longer, holds_longer, none_holds, none_stands_for, stands_same, holds_same, position}
 
 -- the pick over lists is the pick by the transactions of the versions
 pub picked_by_txn : (q : ℕ) (ends : ℕ → Option End) (vs : List Version) → picked q vs (map (λ v. ends v.txn) vs) ≡ picked_by (λ t. counted q (ends t)) vs

@@ -1,5 +1,5 @@
 -- The walk over a log, and the versions and ends that it makes: the picked version is the committed row.
-use Rattle.std.proofs.Common.{◌≡◌, ℕ, ◌+◌, ◌<◌, ◌≤◌, ◌==◌, nat_lt, nat_le, Bool, true, false, not, cond, ◌&&◌, ◌||◌, List, [], ◌∷◌, ◌++◌, map, filter, length, Option, Some, None, refl, sym, ap, ap₂, ◌∙◌, arith, append-nil, append_assoc, true≢false, subst}
+use Rattle.std.proofs.Common.{◌≡◌, ℕ, ◌+◌, ◌<◌, ◌≤◌, ◌==◌, nat_le, Bool, true, false, not, cond, ◌&&◌, ◌||◌, List, [], ◌∷◌, ◌++◌, length, Option, Some, None, refl, sym, ap, ap₂, ◌∙◌, arith, true≢false, subst}
 use Rattle.std.specs.List.{list_any, AllByRecursion}
 use Rattle.std.specs.Option.{is_some}
 use Rattle.std.proofs.lemmas.Bool.{eqb-true, and_parts, not-true, le-leb, leb-true, leb-false, lt-ltb}
@@ -11,15 +11,15 @@ use Rattle.adg_base.specs.declared.vector.Vector.{Vector}
 use Rattle.adg_base.specs.declared.vector.Vector.TheVariants.{Begin, Put, Delete, Undo, Commit, Abort, Create, DropObject, AddColumn, NoInMemory, EndThread}
 use Rattle.adg_base.specs.declared.log.LogEntry.{LogEntry}
 use Rattle.adg_model.specs.Log.{numbered, upto}
-use Rattle.adg_model.specs.Database.{Rows, Change, Database, place, same_place, changed, played, struck, set_at, after, walked, database, no_database, rows_at}
+use Rattle.adg_model.specs.Database.{Rows, Change, Database, place, same_place, played, struck, set_at, after, walked}
 use Rattle.adg_model.specs.declared.fault.CheckKind.{CheckKind}
-use Rattle.adg_model.specs.Sound.{demand, refusal, SoundFrom, IsSound, ScnsWithin, is_running}
+use Rattle.adg_model.specs.Sound.{demand, refusal, SoundFrom, ScnsWithin, is_running}
 use Rattle.adg_model.proofs.LogLaws.{upto_none}
 use Rattle.row_blocks.specs.declared.version.Version.{Version}
 use Rattle.row_blocks.specs.declared.version.End.{End}
-use Rattle.row_blocks.specs.Pick.{Commits, counted, Candidate, candidate, later, latest, row_of, latest_by, picked_by}
-use Rattle.row_blocks.specs.Versions.{Deed, Makes, Strikes, deed_at, stands, strike, after_deed, versions_after, versions_of, end_by, earlier, end_of, is_late}
-use Rattle.row_blocks.proofs.Picked.{latest_by-same, latest_by-push, latest_by-strike, standing, Rising, Below, CommitsAt, won, first_or, won_row}
+use Rattle.row_blocks.specs.Pick.{counted, later, row_of, latest_by}
+use Rattle.row_blocks.specs.Versions.{Deed, Makes, Strikes, deed_at, stands, strike, after_deed, versions_after, end_by, earlier, end_of, is_late}
+use Rattle.row_blocks.proofs.Picked.{latest_by-same, latest_by-push, latest_by-strike, standing, Rising, CommitsAt, won, first_or, won_row}
 
 abbrev pub Row : Type 0
 Row = Option (List Value)

@@ -1,14 +1,13 @@
 -- What a shard shows of what it keeps, and what its calls make of it.
-use Rattle.std.specs.Prelude.{◌≡◌, ℕ, ◌<◌, Bool, ◌==◌, ◌&&◌, if◌then◌else◌, nat_eq, List, [], slice_index_or, Option, Some, None}
+use Rattle.std.specs.Prelude.{◌≡◌, ℕ, Bool, ◌==◌, ◌&&◌, if◌then◌else◌, nat_eq, List, [], slice_index_or, Option, Some, None}
 use Rattle.std.specs.HashMap as hash
 use Rattle.adg_base.specs.Address.{Place}
-use Rattle.adg_base.specs.declared.log.LogEntry.{LogEntry}
 use Rattle.adg_model.specs.Database.{same_place}
 use Rattle.row_blocks.specs.declared.version.Version.{Version}
 use Rattle.row_blocks.specs.declared.version.End.{End}
 use Rattle.row_blocks.specs.declared.shard.Shard.{Shard}
 use Rattle.row_blocks.specs.Versions.{Deed, after_deed, earlier}
-use Rattle.row_blocks.specs.Stands.{Kept, IsSlot, SameKept}
+use Rattle.row_blocks.specs.Stands.{Kept, IsSlot}
 
 -- whether two blocks, each an object and its number there, are one
 abbrev pub same_block : ℕ × ℕ → ℕ × ℕ → Bool

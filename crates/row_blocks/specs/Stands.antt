@@ -2,12 +2,12 @@
 use Rattle.std.specs.Prelude.{◌≡◌, ℕ, ◌+◌, ◌<◌, ◌≤◌, Bool, true, false, not, ◌==◌, nat_lt, ◌&&◌, List, [], ◌∷◌, ◌++◌, length, filter, Option, Some, None}
 use Rattle.std.specs.List.{AllByRecursion}
 use Rattle.adg_base.specs.Address.{Place}
-use Rattle.adg_base.specs.Shard.{shard_of_block, shard_of_txn, shard_of_vector}
+use Rattle.adg_base.specs.Shard.{shard_of_block, shard_of_vector}
 use Rattle.adg_base.specs.declared.log.LogEntry.{LogEntry}
 use Rattle.adg_model.specs.Database.{rows_at}
 use Rattle.row_blocks.specs.declared.version.Version.{Version}
 use Rattle.row_blocks.specs.declared.version.End.{End}
-use Rattle.row_blocks.specs.Pick.{Commits, counted, picked_by}
+use Rattle.row_blocks.specs.Pick.{picked_by}
 use Rattle.row_blocks.specs.Versions.{deed_at, after_deed, versions_of, end_by, earlier, end_of, is_late}
 use Rattle.row_blocks.specs.Law.{IsLog, commits_at}
 

@@ -1,8 +1,6 @@
-use Rattle.std.proofs.Common.{◌≡◌, ◌≤◌, ◌+◌, nat_lt, cond, Ok, Some, sym, ap, ◌∙◌, subst, arith, get_or}
+use Rattle.std.proofs.Common.{cond, Ok, sym, ap, ◌∙◌, arith, get_or}
 use Rattle.std.proofs.lemmas.Bool.{le-ltb}
 use Rattle.row_blocks.specs.declared.shard.Applied.TheVariants.{Done, Already}
-use Rattle.row_blocks.specs.Stands.{SameKept, after_entry}
-use Rattle.row_blocks.specs.Shard.{shown}
 use Rattle.row_blocks.proofs.ShardLists.{set_same, set_numbers, set_passes, on_err}
 use Rattle.row_blocks.proofs.shards.apply_in.Goals as goal
 

@@ -1,4 +1,4 @@
-use Rattle.std.proofs.Common.{◌≡◌, sym, ap, ◌∙◌, subst, Some, None}
+use Rattle.std.proofs.Common.{ap, ◌∙◌, subst, Some, None}
 use Rattle.row_blocks.specs.Versions.{strike}
 use Rattle.row_blocks.specs.Block.{IsLatest}
 use Rattle.row_blocks.proofs.Strikes.{strike_none, strike_latest}

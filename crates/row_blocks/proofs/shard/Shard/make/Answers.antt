@@ -1,4 +1,4 @@
-use Rattle.std.proofs.Common.{◌≡◌, ℕ, cond, ◌&&◌, [], ◌∷◌, ◌++◌, slice_index_or, Some, None, is_some, nat_eq, refl, sym, ap, subst, ◌∙◌, OnOk, OnErr}
+use Rattle.std.proofs.Common.{◌≡◌, ℕ, cond, [], ◌∷◌, ◌++◌, slice_index_or, Some, None, is_some, refl, sym, ap, subst, ◌∙◌}
 use Rattle.std.specs.HashMap as hash
 use Rattle.std.proofs.lemmas.Result.{on_ok_weaker, on_err_weaker}
 use Rattle.row_blocks.specs.Versions.{Makes}

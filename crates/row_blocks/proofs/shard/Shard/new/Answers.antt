@@ -1,4 +1,4 @@
-use Rattle.std.proofs.Common.{◌≡◌, None, refl, ap, nat_eq, arith}
+use Rattle.std.proofs.Common.{◌≡◌, None, refl, ap, arith}
 use Rattle.std.specs.HashMap as hash
 use Rattle.std.proofs.lemmas.Grind.{common_steps}
 use Rattle.row_blocks.specs.Shard.{at_slot, same_block}

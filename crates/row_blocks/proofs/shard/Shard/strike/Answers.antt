@@ -1,4 +1,4 @@
-use Rattle.std.proofs.Common.{◌≡◌, ℕ, cond, ◌&&◌, Some, is_some, nat_eq, refl, sym, ap, subst, ◌∙◌}
+use Rattle.std.proofs.Common.{◌≡◌, ℕ, Some, is_some, refl, sym, ap, subst}
 use Rattle.std.specs.HashMap as hash
 use Rattle.row_blocks.specs.Versions.{Strikes}
 use Rattle.row_blocks.specs.Shard.{shown, same_block}
