@@ -1,0 +1,10 @@
+pub mod Picked
+pub mod Walked
+pub mod PickedLaw
+pub mod Floor
+pub mod Stands
+pub mod Strikes
+pub mod Slots
+pub mod Together
+pub mod ShardLists
+pub mod Lending

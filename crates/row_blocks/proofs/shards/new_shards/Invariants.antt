@@ -1,0 +1,10 @@
+use Rattle.std.proofs.Common.{◌≡◌, ℕ, ◌<◌, length}
+use Rattle.row_blocks.specs.Stands.{SameKept, none_kept}
+use Rattle.row_blocks.specs.Shards.{shards_in}
+use Rattle.row_blocks.proofs.shards.new_shards.Given as goal
+
+abbrev pub invariant-loop-number : goal.invariant-loop-number
+invariant-loop-number l = record {
+  count : length l.shards.items ≡ l.number;
+  empty : (n : ℕ) → n < l.number → SameKept (shards_in l.shards.items n) (none_kept n);
+}

@@ -1,0 +1,12 @@
+//! The row store: what a log has made of each row so far, version by version, with the end of each
+//! transaction, spread over 64 shards; and the pick of the row that is committed at an SCN.
+#![tactic(auto)]
+
+pub mod block;
+pub mod law;
+pub mod pick;
+pub mod shard;
+pub mod shards;
+#[cfg(test)]
+mod tests;
+pub mod version;
