@@ -2,17 +2,21 @@
 use Rattle.std.proofs.Common.{◌≡◌, ℕ, ◌+◌, ◌-◌, ◌<◌, ◌≤◌, ◌^◌, List, [], ◌∷◌, ◌++◌, length, take, drop, map, Option, Some, None, refl, sym, ap, ap₂, ◌∙◌, subst, arith, append_assoc, length-append}
 use Rattle.std.specs.Int.{w16, w64, to_be_bytes, from_be_bytes}
 use Rattle.std.specs.List.{flat_map}
-use Rattle.std.proofs.lemmas.List.{drop_at}
+use Rattle.std.proofs.lemmas.List.{drop_at, append_cancel_left}
 use Rattle.std.proofs.lemmas.Nat.{from_be_bytes-to_be_bytes_2}
 use Rattle.adg_base.specs.declared.vector.RedoRecord.{RedoRecord}
 use Rattle.adg_model.specs.declared.fault.FrameKind.{FrameKind}
-use Rattle.adg_model.specs.Records.{Raw, raw_len, raw_bytes, IsPart, Mark, first_mark, mark_of, mark_after, raw_of, AreRaws, stated_scn, whole_fault, record_fault, HasRecords}
+use Rattle.adg_model.specs.Records.{Raw, raw_len, raw_bytes, IsPart, Mark, first_mark, mark_of, mark_after, raw_of, AreRaws, stated_scn, whole_fault, record_fault, HasRecords, HasBadVector, AreReadable, FailsFrom}
 use Rattle.adg_model.specs.Log.{thread_mark, frontier}
 use Rattle.adg_model.proofs.RecordsFault.{trailer_at, fault_whole}
 use Rattle.adg_model.proofs.RecordsSpelled.{reads_as, raw_bytes-apart, raw-no_part}
+use Rattle.adg_model.specs.declared.fault.RedoKind.TheVariants.{Frame, BadVector, Unsound}
+use Rattle.adg_model.specs.Spelling.{AreVectors}
+use Rattle.change_vectors.proofs.Bodies.{bad_excludes}
 use Rattle.redo_frames.specs.NextRecord.{Stops}
 use Rattle.redo_frames.specs.Reading.{Stands}
 use Rattle.log_merger.specs.Thread.{Receiving, raws, HasRead}
+use Rattle.log_merger.specs.Law.{GoodIsNotBad}
 use Rattle.log_merger.specs.Merge.{marks_of, frontier_of}
 use Rattle.log_merger.specs.Merger.{RecordsFrom, Part, ThreadsFrom}
 
@@ -94,3 +98,52 @@ marks-same n low texts (t ∷ ts) (p ∷ ps) (r ∷ rs) h many k =
 pub frontier-same : (low : ℕ) (texts : ℕ → List ℕ) (ts : List Receiving) (ps : List Part) (records : List (List RedoRecord)) → ThreadsFrom 1 low texts ts ps → length records ≡ length ts → RecordsFrom 1 texts records → frontier_of (marks_of ts) ≡ frontier records
 unfolding frontier
 frontier-same low texts ts ps records h many k = ap frontier_of (marks-same 1 low texts ts ps records h many k)
+
+-- ---- a text with all its records has no bad one
+
+begins-raws : (m : Mark) (rs ss : List Raw) (x y : List ℕ) → AreRaws m rs → AreRaws m ss → IsPart x → flat_map raw_bytes rs ++ x ≡ flat_map raw_bytes ss ++ y → (ks : List Raw) × (rs ≡ ss ++ ks)
+begins-raws m rs [] x y h k part e = (rs, refl)
+begins-raws m [] (s ∷ ss) x y h k part e = absurd (raw-no_part s (flat_map raw_bytes ss ++ y) k.0 (subst IsPart (e ∙ first-apart s ss y) part))
+begins-raws m (r ∷ rs) (s ∷ ss) x y h k part e =
+    let p = raw_bytes-apart r s (flat_map raw_bytes rs ++ x) (flat_map raw_bytes ss ++ y) h.0 k.0 (sym (first-apart r rs x) ∙ e ∙ first-apart s ss y) in
+    let later = begins-raws (mark_of s) rs ss x y (subst (λ (t : Raw). AreRaws (mark_of t) rs) p.0 h.3) k.3 part p.1 in
+    (later.0, ap₂ (λ (t : Raw) (ts : List Raw). t ∷ ts) p.0 later.1)
+
+raw-heads : (a b : Raw) (xs ys : List Raw) → a ∷ xs ≡ b ∷ ys → (a ≡ b) × (xs ≡ ys)
+raw-heads a b xs ys e = (cc, cc)
+
+record Found (raw : Raw) : Type 0 where
+  found : RedoRecord
+  same : raw_of found ≡ raw
+  readable : AreVectors (length found.vectors) found.vectors
+
+find-record : (records : List RedoRecord) (front : List Raw) (raw : Raw) (ks : List Raw) → map raw_of records ≡ (front ++ raw ∷ []) ++ ks → AreReadable records → Found raw
+find-record [] [] raw ks e h = absurd cc
+find-record [] (f ∷ fs) raw ks e h = absurd cc
+find-record (r ∷ rs) [] raw ks e h = record { found = r; same = (raw-heads (raw_of r) raw (map raw_of rs) ks e).0; readable = h.0 }
+find-record (r ∷ rs) (f ∷ fs) raw ks e h = find-record rs fs raw ks (raw-heads (raw_of r) f (map raw_of rs) ((fs ++ raw ∷ []) ++ ks) e).1 h.1
+
+no-bad-vector : (text : List ℕ) (records before : List RedoRecord) (index : ℕ) → HasRecords text records → HasBadVector text before index → ⊥
+no-bad-vector text records before index h bad =
+    let raws_of = map raw_of before in
+    let goes = begins-raws first_mark (map raw_of records) (raws_of ++ bad.bad ∷ []) h.rest bad.rest h.raws.follow bad.follow h.raws.part (sym h.raws.spelled ∙ bad.spelled) in
+    let f = find-record records raws_of bad.bad goes.0 goes.1 h.vectors in
+    let count : length f.found.vectors ≡ bad.bad.count = ap (λ (r : Raw). r.count) f.same in
+    bad_excludes bad.bad.count index bad.bad.body f.found.vectors bad.shown (subst (λ (n : ℕ). AreVectors n f.found.vectors) count f.readable) count (sym (ap (λ (r : Raw). r.body) f.same))
+
+no-bad-frame : (text : List ℕ) (records before : List RedoRecord) (kind : FrameKind) → HasRecords text records → FailsFrom first_mark text (map raw_of before) kind → ⊥
+no-bad-frame text records before kind h bad =
+    let rs = map raw_of records in
+    let spelled = sym h.raws.spelled ∙ bad.spelled in
+    let same : rs ≡ map raw_of before = same-raws (Some kind) first_mark rs (map raw_of before) h.rest bad.rest h.raws.follow bad.follow h.raws.part bad.shown spelled in
+    let rest : h.rest ≡ bad.rest = append_cancel_left (flat_map raw_bytes rs) h.rest bad.rest (spelled ∙ ap (λ (l : List Raw). flat_map raw_bytes l ++ bad.rest) (sym same)) in
+    let shown : record_fault (mark_after first_mark rs) h.rest ≡ Some kind = ap₂ (λ (l : List Raw) (t : List ℕ). record_fault (mark_after first_mark l) t) same rest ∙ bad.shown in
+    some-is-not-none kind (sym shown ∙ h.raws.good)
+  where
+    some-is-not-none : (k : FrameKind) → Some k ≡ None → ⊥
+    some-is-not-none k e = absurd cc
+
+pub good-is-not-bad : GoodIsNotBad
+good-is-not-bad text records before (Frame fault) h bad = no-bad-frame text records before fault h bad.0
+good-is-not-bad text records before (BadVector index) h bad = no-bad-vector text records before index h bad
+good-is-not-bad text records before (Unsound index check) h bad = bad
