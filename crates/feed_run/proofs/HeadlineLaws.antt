@@ -13,7 +13,7 @@ use Rattle.feed_run.specs.Ending.{Ending, FeedRead, WordsRefused, FeedRefused, R
 use Rattle.feed_run.specs.Headline.{HasCauses, Headline, IsGoodFeed, IsComplete, counted}
 use Rattle.feed_run.specs.Progress.{RunStops, WrotePiece, Tells, IsEnded, feed_ending}
 use Rattle.feed_run.specs.Report.{usage_line}
-use Rattle.feed_run.specs.Standby.{Answers, Asks, deliveries_of}
+use Rattle.feed_run.specs.Standby.{Meaning, Unbuilt, deliveries_of}
 use Rattle.feed_run.specs.View.{SourceView, SinkView}
 use Rattle.feed_run.proofs.ProgressLaws.{appends-none, appends-join}
 
@@ -75,9 +75,9 @@ ended-feed kind byte k k' before after result line r m e h =
 
 -- ---- the run of a feed, over what the bytes mean and what is not built
 
-module _ (answers : Answers) (unbuilt : Asks) where
+module _ (meaning : Meaning) (unbuilt : Unbuilt) where
   -- an ending of whose line something was left has a line
-  line-told : (e : Ending) (source : Option (List ℕ)) (taken output front cut : List ℕ) → Stops answers unbuilt e source taken output → front ++ cut ≡ line_of e → cut ≢ [] → HasLine e
+  line-told : (e : Ending) (source : Option (List ℕ)) (taken output front cut : List ℕ) → Stops meaning unbuilt e source taken output → front ++ cut ≡ line_of e → cut ≢ [] → HasLine e
   line-told FeedRead source taken output front cut s split some = absurd (some (nothing-cut front cut split))
   line-told WordsRefused source taken output front cut s split some = absurd s
   line-told (FeedRefused kind byte) source taken output front cut s split some = tt
@@ -88,20 +88,20 @@ module _ (answers : Answers) (unbuilt : Asks) where
   line-told NotBuilt source taken output front cut s split some = tt
 
   -- the ending's line was written whole
-  ends-of : (ending : Ending) (source : Option (List ℕ)) (taken output : List ℕ) → Stops answers unbuilt ending source taken output → RunEnds answers unbuilt source ending taken (output ++ line_of ending)
+  ends-of : (ending : Ending) (source : Option (List ℕ)) (taken output : List ℕ) → Stops meaning unbuilt ending source taken output → RunEnds meaning unbuilt source ending taken (output ++ line_of ending)
   ends-of FeedRead source taken output s = record { before = output; stops = s; then_line = refl }
   ends-of WordsRefused source taken output s = absurd s
   ends-of (FeedRefused kind byte) source taken output s = record { before = output; stops = s; then_line = refl }
   ends-of (RedoRefused fault) source taken output s = record { before = output; stops = s; then_line = refl }
   ends-of SourceFailed source taken output s = record { before = output; stops = s; then_line = refl }
-  ends-of SinkFailed source taken output s = inl (subst (IsCutTranscript answers taken) (sym (append-nil output)) s)
-  ends-of NoMemory source taken output s = inl (subst (λ (w : List ℕ). Stops answers unbuilt NoMemory source taken w) (sym (append-nil output)) s)
+  ends-of SinkFailed source taken output s = inl (subst (IsCutTranscript meaning taken) (sym (append-nil output)) s)
+  ends-of NoMemory source taken output s = inl (subst (λ (w : List ℕ). Stops meaning unbuilt NoMemory source taken w) (sym (append-nil output)) s)
   ends-of NotBuilt source taken output s = record { before = output; stops = s; then_line = refl }
 
   -- the feed was run
   pub headline-run : (source source_now : SourceView) (sink middle sink_now : SinkView) (ending : Ending) (taken before after status : ℕ)
-      → RunStops answers unbuilt source.left source_now.left sink.held middle.held taken before ending → HasCauses ending source source_now sink middle → IsEnded ending middle sink_now before after status
-      → Headline (RunEnds answers unbuilt source.left) source source_now sink sink_now (record { status = status; taken = taken; written = after })
+      → RunStops meaning unbuilt source.left source_now.left sink.held middle.held taken before ending → HasCauses ending source source_now sink middle → IsEnded ending middle sink_now before after status
+      → Headline (RunEnds meaning unbuilt source.left) source source_now sink sink_now (record { status = status; taken = taken; written = after })
   headline-run source source_now sink middle sink_now ending taken before after status run causes (inl (inl (p, is))) = record {
     taken = run.bytes;
     written = run.output ++ line_of ending;
@@ -157,7 +157,7 @@ module _ (answers : Answers) (unbuilt : Asks) where
     written_count = p.count run.output run.written_count;
     ending = NoMemory;
     status = is;
-    ends = inr (record { ending = ending; told = told; stops = subst (λ (w : List ℕ). Stops answers unbuilt ending source.left run.bytes w) (sym (append-nil run.output)) run.stops });
+    ends = inr (record { ending = ending; told = told; stops = subst (λ (w : List ℕ). Stops meaning unbuilt ending source.left run.bytes w) (sym (append-nil run.output)) run.stops });
     causes = record {
       read_fault = λ s. absurd (subst IsWant s tt);
       no_read_fault = λ s. causes.no_read_fault (line-source ending told);
@@ -167,7 +167,7 @@ module _ (answers : Answers) (unbuilt : Asks) where
   }
 
   -- the redo of a good feed has no fault
-  no-redo-fault : (bytes : List ℕ) (rest : Option (List ℕ)) (taken before : List ℕ) (fault : RedoFault) → IsGoodFeed bytes → Consumes (Some bytes) rest taken → HasRedoFault answers fault taken before → ⊥
+  no-redo-fault : (bytes : List ℕ) (rest : Option (List ℕ)) (taken before : List ℕ) (fault : RedoFault) → IsGoodFeed bytes → Consumes (Some bytes) rest taken → HasRedoFault meaning fault taken before → ⊥
   no-redo-fault bytes None taken before fault good took h = absurd took
   no-redo-fault bytes (Some rest) taken before fault good took h =
       let ds : List (List Item) = h.one.deliveries ++ h.one.last ∷ [] in
@@ -175,7 +175,7 @@ module _ (answers : Answers) (unbuilt : Asks) where
       good.no_fault ds p.2.0 fault p.2.1 (subst (λ (t : ℕ). IsRedoFault t (deliveries_of ds) fault) p.0 h.bad)
 
   complete-ends : (source rest : Option (List ℕ)) (reads reads_now writes writes_now status : ℕ) (taken written : List ℕ) (ending : Ending)
-      → status ≡ status_of ending → RunEnds answers unbuilt source ending taken written → Consumes source rest taken → (ending ≡ SourceFailed → Rose reads reads_now) → (ending ≡ SinkFailed → Rose writes writes_now)
+      → status ≡ status_of ending → RunEnds meaning unbuilt source ending taken written → Consumes source rest taken → (ending ≡ SourceFailed → Rose reads reads_now) → (ending ≡ SinkFailed → Rose writes writes_now)
       → (bytes : List ℕ) → source ≡ Some bytes → IsGoodFeed bytes → (Rose reads reads_now → ⊥) → (Rose writes writes_now → ⊥) → status ≢ 7 → (status ≡ 0) ⊎ (status ≡ 6)
   complete-ends source rest reads reads_now writes writes_now status taken written FeedRead e ends took rf wf bytes is good no_read no_write built = inl e
   complete-ends source rest reads reads_now writes writes_now status taken written WordsRefused e ends took rf wf bytes is good no_read no_write built = absurd ends
@@ -190,7 +190,7 @@ module _ (answers : Answers) (unbuilt : Asks) where
   complete-ends source rest reads reads_now writes writes_now status taken written NoMemory e ends took rf wf bytes is good no_read no_write built = inr e
   complete-ends source rest reads reads_now writes writes_now status taken written NotBuilt e ends took rf wf bytes is good no_read no_write built = absurd (built e)
 
-  pub complete : (source source_now : SourceView) (sink sink_now : SinkView) (outcome : Outcome) → Headline (RunEnds answers unbuilt source.left) source source_now sink sink_now outcome → IsComplete source source_now sink sink_now outcome
+  pub complete : (source source_now : SourceView) (sink sink_now : SinkView) (outcome : Outcome) → Headline (RunEnds meaning unbuilt source.left) source source_now sink sink_now outcome → IsComplete source source_now sink sink_now outcome
   complete source source_now sink sink_now outcome h bytes is good =
       complete-ends source.left source_now.left source.faults source_now.faults sink.faults sink_now.faults outcome.status h.taken h.written h.ending h.status h.ends h.took h.causes.read_fault h.causes.write_fault bytes is good
 

@@ -8,7 +8,7 @@ use Rattle.adg_model.specs.declared.delivery.RedoPiece.{RedoPiece}
 use Rattle.adg_model.specs.Feed.{Item, Redo, Asks, Schedules, Standing, AreItems, IsDelivery, IsIn, piece_of, command_of, redo_len, redo_total, start, after_delivery, after_deliveries, most_redo, most_payload, most_deliveries}
 use Rattle.adg_model.specs.Records.{bytes_for, thread_text}
 use Rattle.adg_model.proofs.FeedLaws.{few_commands, own_sessions, after-threads, after-sessions, ends_count, redo_within}
-use Rattle.feed_run.specs.Standby.{Answers, IsNext, deliveries_of}
+use Rattle.feed_run.specs.Standby.{Meaning, IsNext, deliveries_of}
 use Rattle.feed_run.proofs.ProgressLaws.{last-delivery, of-more}
 
 -- the redo bytes of a thread are no more than the redo counts
@@ -44,7 +44,7 @@ own_threads st before (Redo t b ∷ items) h = (h.0.0, own_threads st (before ++
 own_threads st before (Asks s t ∷ items) h = own_threads st (before ++ Asks s t ∷ []) items h.1
 own_threads st before (Schedules b ∷ items) h = own_threads st (before ++ Schedules b ∷ []) items h.1
 
-module _ (answered : Answers) (d : RawDelivery) (next : IsNext answered d) where
+module _ (answered : Meaning) (d : RawDelivery) (next : IsNext answered d) where
   is-delivery : IsDelivery (after_deliveries (start next.threads next.sessions) next.before) next.items
   is-delivery = last-delivery (start next.threads next.sessions) next.before next.items next.feed.1
 

@@ -23,7 +23,7 @@ use Rattle.feed_run.specs.declared.standby.Unanswered.TheVariants as unanswered
 use Rattle.feed_run.specs.Ending.{IsFeedFront, HasRunFront, FeedRead, SinkFailed, Stops, HasFeedFault, read_bytes}
 use Rattle.feed_run.specs.Headline.{counted}
 use Rattle.feed_run.specs.Progress.{IsAt, RunStops, WroteFront, WrotePiece, Writes, feed_ending, ending_of}
-use Rattle.feed_run.specs.Standby.{Answers, Asks, IsNext, Begins, Responds, SomeAnswered, deliveries_of}
+use Rattle.feed_run.specs.Standby.{Meaning, Unbuilt, IsNext, Begins, Responds, SomeAnswered, deliveries_of}
 use Rattle.feed_run.specs.View.{SinkView}
 use Rattle.feed_run.proofs.StoppedReading.{IsOpeningFront, IsDeliveryFront, IsFrontBefore, opening-read, opening-memory, opening-shown, opening-before, delivery-read, delivery-memory, delivery-shown, delivery-found, delivery-before, delivery-none}
 
@@ -119,9 +119,9 @@ last-delivery st (d ∷ ds) items h = last-delivery (after_delivery st d) ds ite
 -- ---- where the run stands
 
 -- the reader stands before the first delivery
-pub at-start : (answers : Answers) (source from sink : Option (List ℕ)) (opened : FeedState) (threads sessions : ℕ) → HasRead source from opened → threads ≡ opened.standing.threads → sessions ≡ opened.standing.sessions
-    → answers threads sessions [] [] → IsAt answers source from sink sink opened 0
-at-start answers source from sink opened threads sessions h t s none = record {
+pub at-start : (meaning : Meaning) (source from sink : Option (List ℕ)) (opened : FeedState) (threads sessions : ℕ) → HasRead source from opened → threads ≡ opened.standing.threads → sessions ≡ opened.standing.sessions
+    → meaning threads sessions [] [] → IsAt meaning source from sink sink opened 0
+at-start meaning source from sink opened threads sessions h t s none = record {
   threads = opened.standing.threads;
   sessions = opened.standing.sessions;
   deliveries = [];
@@ -130,17 +130,17 @@ at-start answers source from sink opened threads sessions h t s none = record {
   phase = h.phase;
   standing = h.standing;
   took = took-as source from 0 opened.taken _ _ (sym (append-nil (opening_bytes opened.standing.threads opened.standing.sessions))) h.took;
-  ran = subst (λ (n : ℕ). answers opened.standing.threads n [] []) s (subst (λ (n : ℕ). answers n sessions [] []) t none);
+  ran = subst (λ (n : ℕ). meaning opened.standing.threads n [] []) s (subst (λ (n : ℕ). meaning n sessions [] []) t none);
   wrote = appends-none sink;
   written_count = refl;
 }
 
 -- what follows from a claim on bytes
-abbrev pub Follows : Answers → Answers → Type 0
+abbrev pub Follows : Meaning → Meaning → Type 0
 Follows p q = (threads sessions : ℕ) (ds : List RawDelivery) (out : List ℕ) → p threads sessions ds out → q threads sessions ds out
 
 -- what a standby has answered some standby has
-pub some-of : {S : Type 0} (answered : S → Answers) (standby : S) → Follows (answered standby) (SomeAnswered answered)
+pub some-of : {S : Type 0} (answered : S → Meaning) (standby : S) → Follows (answered standby) (SomeAnswered answered)
 some-of answered standby threads sessions ds out h = inr (standby, h)
 
 -- The facts of one delivery more that was read where the run stands.
@@ -152,7 +152,7 @@ pub record OneRead (source to : Option (List ℕ)) (threads sessions : ℕ) (ds 
   pub brings : d ≡ delivery_of items
   pub deliveries : deliveries_of ds ++ d ∷ [] ≡ deliveries_of (ds ++ items ∷ [])
 
-module _ (answers : Answers) (source from sink held : Option (List ℕ)) (old : FeedState) (written : ℕ) (at : IsAt answers source from sink held old written) (to : Option (List ℕ)) (new : FeedState) (d : RawDelivery) (r : ReadDelivery old new from to d) where
+module _ (meaning : Meaning) (source from sink held : Option (List ℕ)) (old : FeedState) (written : ℕ) (at : IsAt meaning source from sink held old written) (to : Option (List ℕ)) (new : FeedState) (d : RawDelivery) (r : ReadDelivery old new from to d) where
   pub one-read : OneRead source to at.threads at.sessions at.deliveries new d
   one-read =
       let st : Standing = start at.threads at.sessions in
@@ -168,7 +168,7 @@ module _ (answers : Answers) (source from sink held : Option (List ℕ)) (old : 
       }
 
   -- it may be answered
-  abbrev pub is-next : IsNext answers d
+  abbrev pub is-next : IsNext meaning d
   is-next = record {
     threads = at.threads;
     sessions = at.sessions;
@@ -181,7 +181,7 @@ module _ (answers : Answers) (source from sink held : Option (List ℕ)) (old : 
   }
 
   -- it was answered and its lines were written
-  pub at-more : (q : Answers) (k k' : SinkView) (written' : ℕ) (printed : List ℕ) → held ≡ k.held → q at.threads at.sessions (deliveries_of at.deliveries ++ d ∷ []) (at.output ++ printed)
+  pub at-more : (q : Meaning) (k k' : SinkView) (written' : ℕ) (printed : List ℕ) → held ≡ k.held → q at.threads at.sessions (deliveries_of at.deliveries ++ d ∷ []) (at.output ++ printed)
       → WrotePiece k k' written written' printed → IsAt q source to sink k'.held new written'
   at-more q k k' written' printed same ran wrote = record {
     threads = at.threads;
@@ -200,32 +200,32 @@ module _ (answers : Answers) (source from sink held : Option (List ℕ)) (old : 
 -- ---- how the run stops
 
 -- a fault by its kind
-stops-by_kind : (answers : Answers) (unbuilt : Asks) (kind : FeedKind) (byte : ℕ) (source : Option (List ℕ)) (taken written : List ℕ) → (IsOfBytes kind → HasFeedFault answers source kind byte taken written)
-    → (kind ≡ kinds.Read → HasRunFront answers taken written) → (kind ≡ kinds.Memory → HasRunFront answers taken written ⊎ HasRunFront answers (without_last taken) written)
-    → Stops answers unbuilt (feed_ending kind byte) source taken written
-stops-by_kind answers unbuilt kinds.BadMagic byte source taken written f r m = f tt
-stops-by_kind answers unbuilt kinds.BadTag byte source taken written f r m = f tt
-stops-by_kind answers unbuilt kinds.BadOrder byte source taken written f r m = f tt
-stops-by_kind answers unbuilt kinds.BadLength byte source taken written f r m = f tt
-stops-by_kind answers unbuilt kinds.TooLarge byte source taken written f r m = f tt
-stops-by_kind answers unbuilt kinds.TooManyDeliveries byte source taken written f r m = f tt
-stops-by_kind answers unbuilt kinds.BadThread byte source taken written f r m = f tt
-stops-by_kind answers unbuilt kinds.BadSession byte source taken written f r m = f tt
-stops-by_kind answers unbuilt kinds.TooManyCommands byte source taken written f r m = f tt
-stops-by_kind answers unbuilt kinds.Truncated byte source taken written f r m = f tt
-stops-by_kind answers unbuilt kinds.Read byte source taken written f r m = r refl
-stops-by_kind answers unbuilt kinds.Memory byte source taken written f r m = m refl
+stops-by_kind : (meaning : Meaning) (unbuilt : Unbuilt) (kind : FeedKind) (byte : ℕ) (source : Option (List ℕ)) (taken written : List ℕ) → (IsOfBytes kind → HasFeedFault meaning source kind byte taken written)
+    → (kind ≡ kinds.Read → HasRunFront meaning taken written) → (kind ≡ kinds.Memory → HasRunFront meaning taken written ⊎ HasRunFront meaning (without_last taken) written)
+    → Stops meaning unbuilt (feed_ending kind byte) source taken written
+stops-by_kind meaning unbuilt kinds.BadMagic byte source taken written f r m = f tt
+stops-by_kind meaning unbuilt kinds.BadTag byte source taken written f r m = f tt
+stops-by_kind meaning unbuilt kinds.BadOrder byte source taken written f r m = f tt
+stops-by_kind meaning unbuilt kinds.BadLength byte source taken written f r m = f tt
+stops-by_kind meaning unbuilt kinds.TooLarge byte source taken written f r m = f tt
+stops-by_kind meaning unbuilt kinds.TooManyDeliveries byte source taken written f r m = f tt
+stops-by_kind meaning unbuilt kinds.BadThread byte source taken written f r m = f tt
+stops-by_kind meaning unbuilt kinds.BadSession byte source taken written f r m = f tt
+stops-by_kind meaning unbuilt kinds.TooManyCommands byte source taken written f r m = f tt
+stops-by_kind meaning unbuilt kinds.Truncated byte source taken written f r m = f tt
+stops-by_kind meaning unbuilt kinds.Read byte source taken written f r m = r refl
+stops-by_kind meaning unbuilt kinds.Memory byte source taken written f r m = m refl
 
 -- bytes of a delivery come after whole deliveries that were answered
-module _ (answers : Answers) (threads sessions : ℕ) (ds : List (List Item)) (out : List ℕ) (feed : IsFeed threads sessions ds) (ran : answers threads sessions (deliveries_of ds) out) where
-  run-front : (bytes : List ℕ) → IsDeliveryFront (after_deliveries (start threads sessions) ds) (read_bytes threads sessions ds) bytes → HasRunFront answers (read_bytes threads sessions ds ++ bytes) out
+module _ (meaning : Meaning) (threads sessions : ℕ) (ds : List (List Item)) (out : List ℕ) (feed : IsFeed threads sessions ds) (ran : meaning threads sessions (deliveries_of ds) out) where
+  run-front : (bytes : List ℕ) → IsDeliveryFront (after_deliveries (start threads sessions) ds) (read_bytes threads sessions ds) bytes → HasRunFront meaning (read_bytes threads sessions ds ++ bytes) out
   run-front bytes front = record { threads = threads; sessions = sessions; deliveries = ds; front = inr (record { rest = bytes; feed = feed; spelled = refl; fails = front }); ran = ran }
 
   -- the same where the last byte is left out
   feed-before : (bytes : List ℕ) → IsFrontBefore (after_deliveries (start threads sessions) ds) (read_bytes threads sessions ds) bytes → IsFeedFront (without_last (read_bytes threads sessions ds ++ bytes)) threads sessions ds
   feed-before bytes h = subst (λ (t : List ℕ). IsFeedFront t threads sessions ds) (sym h.spelled) (inr (record { rest = h.rest; feed = feed; spelled = refl; fails = h.front }))
 
-  run-before : (bytes : List ℕ) → IsFrontBefore (after_deliveries (start threads sessions) ds) (read_bytes threads sessions ds) bytes → HasRunFront answers (without_last (read_bytes threads sessions ds ++ bytes)) out
+  run-before : (bytes : List ℕ) → IsFrontBefore (after_deliveries (start threads sessions) ds) (read_bytes threads sessions ds) bytes → HasRunFront meaning (without_last (read_bytes threads sessions ds ++ bytes)) out
   run-before bytes h = record { threads = threads; sessions = sessions; deliveries = ds; front = feed-before bytes h; ran = ran }
 
 -- the fault of what the source told of a delivery is the fault of all that it told
@@ -242,12 +242,12 @@ later-fails (Some bytes) (Some left) threads sessions ds offset st kind byte fee
     })
 
 -- Where the run stands before a delivery, over what the bytes mean and what is not built.
-module _ (p answers : Answers) (unbuilt : Asks) (means : Follows p answers) (source from sink held : Option (List ℕ)) (old : FeedState) (written : ℕ) (at : IsAt p source from sink held old written) (to : Option (List ℕ)) (new : FeedState) where
-  ran-so : answers at.threads at.sessions (deliveries_of at.deliveries) at.output
+module _ (p meaning : Meaning) (unbuilt : Unbuilt) (means : Follows p meaning) (source from sink held : Option (List ℕ)) (old : FeedState) (written : ℕ) (at : IsAt p source from sink held old written) (to : Option (List ℕ)) (new : FeedState) where
+  ran-so : meaning at.threads at.sessions (deliveries_of at.deliveries) at.output
   ran-so = means at.threads at.sessions (deliveries_of at.deliveries) at.output at.ran
 
   -- the stop frame was read
-  pub stop-end : ReadEnd old new from to → RunStops answers unbuilt source to sink held new.taken written FeedRead
+  pub stop-end : ReadEnd old new from to → RunStops meaning unbuilt source to sink held new.taken written FeedRead
   stop-end r = record {
     bytes = read_bytes at.threads at.sessions at.deliveries ++ stop_bytes;
     output = at.output;
@@ -258,7 +258,7 @@ module _ (p answers : Answers) (unbuilt : Asks) (means : Follows p answers) (sou
   }
 
   -- the first fault of a feed after deliveries that were answered
-  later-fault : (fault : FeedFault) (r : NoDelivery old new from to fault) → IsOfBytes fault.kind → HasFeedFault answers source fault.kind fault.byte (read_bytes at.threads at.sessions at.deliveries ++ (items_bytes r.before ++ r.rest)) at.output
+  later-fault : (fault : FeedFault) (r : NoDelivery old new from to fault) → IsOfBytes fault.kind → HasFeedFault meaning source fault.kind fault.byte (read_bytes at.threads at.sessions at.deliveries ++ (items_bytes r.before ++ r.rest)) at.output
   later-fault fault r shown =
       let st : Standing = after_deliveries (start at.threads at.sessions) at.deliveries in
       let earlier : List ℕ = read_bytes at.threads at.sessions at.deliveries in
@@ -278,11 +278,11 @@ module _ (p answers : Answers) (unbuilt : Asks) (means : Follows p answers) (sou
           spelled = refl;
           fails = delivery-shown st r.before r.rest to fault.kind (length earlier) fault.byte new.taken shown items stops byte all;
         });
-        at_once = λ other. feed-before answers at.threads at.sessions at.deliveries at.output at.feed ran-so (items_bytes r.before ++ r.rest) (delivery-found st earlier r.before r.rest to fault.kind (shown, other) items stops);
+        at_once = λ other. feed-before meaning at.threads at.sessions at.deliveries at.output at.feed ran-so (items_bytes r.before ++ r.rest) (delivery-found st earlier r.before r.rest to fault.kind (shown, other) items stops);
         ran = ran-so;
       }
 
-  pub stop-fault : (fault : FeedFault) → NoDelivery old new from to fault → RunStops answers unbuilt source to sink held new.taken written (feed_ending fault.kind fault.byte)
+  pub stop-fault : (fault : FeedFault) → NoDelivery old new from to fault → RunStops meaning unbuilt source to sink held new.taken written (feed_ending fault.kind fault.byte)
   stop-fault fault r =
       let st : Standing = after_deliveries (start at.threads at.sessions) at.deliveries in
       let earlier : List ℕ = read_bytes at.threads at.sessions at.deliveries in
@@ -295,28 +295,28 @@ module _ (p answers : Answers) (unbuilt : Asks) (means : Follows p answers) (sou
         took = took-join source from to old.taken new.taken _ _ at.took r.took;
         wrote = at.wrote;
         written_count = at.written_count;
-        stops = stops-by_kind answers unbuilt fault.kind fault.byte source (earlier ++ bytes) at.output (later-fault fault r)
-            (λ e. run-front answers at.threads at.sessions at.deliveries at.output at.feed ran-so bytes (delivery-read st earlier r.before r.rest to fault.kind e items stops))
-            (λ e. ⊎_elim (λ front. inl (run-front answers at.threads at.sessions at.deliveries at.output at.feed ran-so bytes front))
-            (λ front. inr (run-before answers at.threads at.sessions at.deliveries at.output at.feed ran-so bytes front))
+        stops = stops-by_kind meaning unbuilt fault.kind fault.byte source (earlier ++ bytes) at.output (later-fault fault r)
+            (λ e. run-front meaning at.threads at.sessions at.deliveries at.output at.feed ran-so bytes (delivery-read st earlier r.before r.rest to fault.kind e items stops))
+            (λ e. ⊎_elim (λ front. inl (run-front meaning at.threads at.sessions at.deliveries at.output at.feed ran-so bytes front))
+            (λ front. inr (run-before meaning at.threads at.sessions at.deliveries at.output at.feed ran-so bytes front))
             (delivery-memory st earlier r.before r.rest to fault.kind e items stops));
       }
 
   -- why a delivery that was read was not answered
-  unanswered-stops : (ds : List (List Item)) (items : List Item) (out : List ℕ) (one : IsFeed at.threads at.sessions (ds ++ items ∷ [])) → IsFeed at.threads at.sessions ds → answers at.threads at.sessions (deliveries_of ds) out
-      → (q : Answers) (before : List ℕ) (u : Unanswered) → Responds q unbuilt at.threads at.sessions (deliveries_of (ds ++ items ∷ [])) before (Err u)
-      → Stops answers unbuilt (ending_of (Err (refusals.Delivery u))) source (read_bytes at.threads at.sessions (ds ++ items ∷ [])) out
+  unanswered-stops : (ds : List (List Item)) (items : List Item) (out : List ℕ) (one : IsFeed at.threads at.sessions (ds ++ items ∷ [])) → IsFeed at.threads at.sessions ds → meaning at.threads at.sessions (deliveries_of ds) out
+      → (q : Meaning) (before : List ℕ) (u : Unanswered) → Responds q unbuilt at.threads at.sessions (deliveries_of (ds ++ items ∷ [])) before (Err u)
+      → Stops meaning unbuilt (ending_of (Err (refusals.Delivery u))) source (read_bytes at.threads at.sessions (ds ++ items ∷ [])) out
   unanswered-stops ds items out feed earlier ran q before (unanswered.Redo fault) h = record { one = record { threads = at.threads; sessions = at.sessions; deliveries = ds; last = items; feed = feed; read = refl; ran = ran }; bad = h }
   unanswered-stops ds items out feed earlier ran q before unanswered.NotBuilt h = inr (record { one = record { threads = at.threads; sessions = at.sessions; deliveries = ds; last = items; feed = feed; read = refl; ran = ran }; asks = h })
   unanswered-stops ds items out feed earlier ran q before unanswered.Memory h =
       let st : Standing = after_deliveries (start at.threads at.sessions) ds in
       let are = last-delivery (start at.threads at.sessions) ds items feed.1 in
-      inr (subst (λ (t : List ℕ). HasRunFront answers (without_last t) out) (read-more at.threads at.sessions ds items)
-      (run-before answers at.threads at.sessions ds out earlier ran (delivery_bytes items) (delivery-before st (read_bytes at.threads at.sessions ds) items are.0)))
+      inr (subst (λ (t : List ℕ). HasRunFront meaning (without_last t) out) (read-more at.threads at.sessions ds items)
+      (run-before meaning at.threads at.sessions ds out earlier ran (delivery_bytes items) (delivery-before st (read_bytes at.threads at.sessions ds) items are.0)))
 
   -- a delivery was read and not answered
-  pub stop-delivery : (d : RawDelivery) (r : ReadDelivery old new from to d) (q : Answers) (before : List ℕ) (u : Unanswered) → Responds q unbuilt at.threads at.sessions (deliveries_of at.deliveries ++ d ∷ []) before (Err u)
-      → RunStops answers unbuilt source to sink held new.taken written (ending_of (Err (refusals.Delivery u)))
+  pub stop-delivery : (d : RawDelivery) (r : ReadDelivery old new from to d) (q : Meaning) (before : List ℕ) (u : Unanswered) → Responds q unbuilt at.threads at.sessions (deliveries_of at.deliveries ++ d ∷ []) before (Err u)
+      → RunStops meaning unbuilt source to sink held new.taken written (ending_of (Err (refusals.Delivery u)))
   stop-delivery d r q before u h =
       let one = one-read p source from sink held old written at to new d r in
       record {
@@ -330,8 +330,8 @@ module _ (p answers : Answers) (unbuilt : Asks) (means : Follows p answers) (sou
       }
 
   -- the lines of a delivery were not all taken
-  stop-write : (d : RawDelivery) (r : ReadDelivery old new from to d) (printed : List ℕ) (k k' : SinkView) (written' : ℕ) → held ≡ k.held → answers at.threads at.sessions (deliveries_of at.deliveries ++ d ∷ []) (at.output ++ printed)
-      → WroteFront k k' written written' printed → RunStops answers unbuilt source to sink k'.held new.taken written' SinkFailed
+  stop-write : (d : RawDelivery) (r : ReadDelivery old new from to d) (printed : List ℕ) (k k' : SinkView) (written' : ℕ) → held ≡ k.held → meaning at.threads at.sessions (deliveries_of at.deliveries ++ d ∷ []) (at.output ++ printed)
+      → WroteFront k k' written written' printed → RunStops meaning unbuilt source to sink k'.held new.taken written' SinkFailed
   stop-write d r printed k k' written' same ran wrote =
       let one = one-read p source from sink held old written at to new d r in
       record {
@@ -345,23 +345,23 @@ module _ (p answers : Answers) (unbuilt : Asks) (means : Follows p answers) (sou
           front = wrote.front;
           cut = wrote.cut;
           one = record { threads = at.threads; sessions = at.sessions; deliveries = at.deliveries; last = one.items; feed = one.feed; read = refl; ran = ran-so };
-          ran = subst (λ (t : List ℕ). answers at.threads at.sessions (deliveries_of (at.deliveries ++ one.items ∷ [])) (at.output ++ t)) (sym wrote.split)
-              (subst (λ (l : List RawDelivery). answers at.threads at.sessions l (at.output ++ printed)) one.deliveries ran);
+          ran = subst (λ (t : List ℕ). meaning at.threads at.sessions (deliveries_of (at.deliveries ++ one.items ∷ [])) (at.output ++ t)) (sym wrote.split)
+              (subst (λ (l : List RawDelivery). meaning at.threads at.sessions l (at.output ++ printed)) one.deliveries ran);
           some = wrote.some;
           written_is = refl;
         };
       }
 
   -- the sink did not take all of the lines
-  pub stop-put : (d : RawDelivery) (r : ReadDelivery old new from to d) (printed : List ℕ) (k k' : SinkView) (written' : ℕ) (refusal : Refusal) → held ≡ k.held → answers at.threads at.sessions (deliveries_of at.deliveries ++ d ∷ []) (at.output ++ printed)
-      → Writes k k' written written' printed (Err refusal) → RunStops answers unbuilt source to sink k'.held new.taken written' (ending_of (Err refusal))
+  pub stop-put : (d : RawDelivery) (r : ReadDelivery old new from to d) (printed : List ℕ) (k k' : SinkView) (written' : ℕ) (refusal : Refusal) → held ≡ k.held → meaning at.threads at.sessions (deliveries_of at.deliveries ++ d ∷ []) (at.output ++ printed)
+      → Writes k k' written written' printed (Err refusal) → RunStops meaning unbuilt source to sink k'.held new.taken written' (ending_of (Err refusal))
   stop-put d r printed k k' written' (refusals.Feed f) same ran h = absurd h
   stop-put d r printed k k' written' (refusals.Delivery u) same ran h = absurd h
   stop-put d r printed k k' written' refusals.Write same ran h = stop-write d r printed k k' written' same ran h
 
 -- Nothing was answered yet.
-module _ (answers : Answers) (unbuilt : Asks) (nothing : (threads sessions : ℕ) → answers threads sessions [] []) (source to sink : Option (List ℕ)) (new : FeedState) where
-  none-run : (bytes : List ℕ) → IsOpeningFront bytes → HasRunFront answers bytes []
+module _ (meaning : Meaning) (unbuilt : Unbuilt) (nothing : (threads sessions : ℕ) → meaning threads sessions [] []) (source to sink : Option (List ℕ)) (new : FeedState) where
+  none-run : (bytes : List ℕ) → IsOpeningFront bytes → HasRunFront meaning bytes []
   none-run bytes front = record { threads = 1; sessions = 1; deliveries = []; front = inl (refl, front); ran = nothing 1 1 }
 
   opening-fails : (s : Option (List ℕ)) (kind : FeedKind) (byte : ℕ) → IfSome s (λ left. OpeningFails left kind byte) → IfSome s (λ bytes. FeedFails bytes 1 1 [] kind byte)
@@ -369,14 +369,14 @@ module _ (answers : Answers) (unbuilt : Asks) (nothing : (threads sessions : ℕ
   opening-fails (Some bytes) kind byte h = inl (refl, h)
 
   -- the header has a fault
-  pub stop-header : (fault : FeedFault) → NoHeader fresh new source to fault → RunStops answers unbuilt source to sink sink new.taken 0 (feed_ending fault.kind fault.byte)
+  pub stop-header : (fault : FeedFault) → NoHeader fresh new source to fault → RunStops meaning unbuilt source to sink sink new.taken 0 (feed_ending fault.kind fault.byte)
   stop-header fault r = record {
     bytes = r.bytes;
     output = [];
     took = r.took;
     wrote = appends-none sink;
     written_count = refl;
-    stops = stops-by_kind answers unbuilt fault.kind fault.byte source r.bytes [] (λ shown. record {
+    stops = stops-by_kind meaning unbuilt fault.kind fault.byte source r.bytes [] (λ shown. record {
       threads = 1;
       sessions = 1;
       deliveries = [];
@@ -390,18 +390,18 @@ module _ (answers : Answers) (unbuilt : Asks) (nothing : (threads sessions : ℕ
   }
 
   -- why no standby began after the header
-  unbegun-stops : {S : Type 0} (answered : S → Answers) (u : Unanswered) → HasRead source to new → Begins answered unbuilt new.standing.threads new.standing.sessions (Err u)
-      → Stops answers unbuilt (ending_of (Err (refusals.Delivery u))) source (opening_bytes new.standing.threads new.standing.sessions) []
+  unbegun-stops : {S : Type 0} (answered : S → Meaning) (u : Unanswered) → HasRead source to new → Begins answered unbuilt new.standing.threads new.standing.sessions (Err u)
+      → Stops meaning unbuilt (ending_of (Err (refusals.Delivery u))) source (opening_bytes new.standing.threads new.standing.sessions) []
   unbegun-stops answered (unanswered.Redo fault) h b = absurd b
   unbegun-stops answered unanswered.NotBuilt h b = inl (record { threads = new.standing.threads; sessions = new.standing.sessions; header = h.header; read = refl; none = refl; asks = b })
   unbegun-stops answered unanswered.Memory h b =
       let earlier : List ℕ = read_bytes new.standing.threads new.standing.sessions [] in
-      inl (subst (λ (t : List ℕ). HasRunFront answers t []) (append-nil earlier ∙ append-nil (opening_bytes new.standing.threads new.standing.sessions))
-      (run-front answers new.standing.threads new.standing.sessions [] [] (h.header, tt) (nothing new.standing.threads new.standing.sessions) [] (delivery-none (start new.standing.threads new.standing.sessions) earlier)))
+      inl (subst (λ (t : List ℕ). HasRunFront meaning t []) (append-nil earlier ∙ append-nil (opening_bytes new.standing.threads new.standing.sessions))
+      (run-front meaning new.standing.threads new.standing.sessions [] [] (h.header, tt) (nothing new.standing.threads new.standing.sessions) [] (delivery-none (start new.standing.threads new.standing.sessions) earlier)))
 
   -- no standby began
-  pub stop-begin : {S : Type 0} (answered : S → Answers) (threads sessions : ℕ) (u : Unanswered) → HasRead source to new → threads ≡ new.standing.threads → sessions ≡ new.standing.sessions
-      → Begins answered unbuilt threads sessions (Err u) → RunStops answers unbuilt source to sink sink new.taken 0 (ending_of (Err (refusals.Delivery u)))
+  pub stop-begin : {S : Type 0} (answered : S → Meaning) (threads sessions : ℕ) (u : Unanswered) → HasRead source to new → threads ≡ new.standing.threads → sessions ≡ new.standing.sessions
+      → Begins answered unbuilt threads sessions (Err u) → RunStops meaning unbuilt source to sink sink new.taken 0 (ending_of (Err (refusals.Delivery u)))
   stop-begin answered threads sessions u h t s b = record {
     bytes = opening_bytes new.standing.threads new.standing.sessions;
     output = [];
@@ -412,5 +412,5 @@ module _ (answers : Answers) (unbuilt : Asks) (nothing : (threads sessions : ℕ
   }
 
 -- before the first delivery nothing is written
-pub nothing-of : {S : Type 0} (answered : S → Answers) (threads sessions : ℕ) → SomeAnswered answered threads sessions [] []
+pub nothing-of : {S : Type 0} (answered : S → Meaning) (threads sessions : ℕ) → SomeAnswered answered threads sessions [] []
 nothing-of answered threads sessions = inl (refl, refl)

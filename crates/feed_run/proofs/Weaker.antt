@@ -4,17 +4,17 @@ use Rattle.adg_model.specs.declared.delivery.RawDelivery.{RawDelivery}
 use Rattle.feed_run.specs.declared.outcome.Outcome.{Outcome}
 use Rattle.feed_run.specs.Ending.{Ending, FeedRead, WordsRefused, FeedRefused, RedoRefused, SourceFailed, SinkFailed, NoMemory, NotBuilt, HasOneMore, HasRunFront, IsCutTranscript, Stops, StopsWithLine, RunEnds, all_of}
 use Rattle.feed_run.specs.Headline.{Ends, Headline}
-use Rattle.feed_run.specs.Standby.{Answers, Asks, SomeAnswered}
+use Rattle.feed_run.specs.Standby.{Meaning, Unbuilt, SomeAnswered}
 use Rattle.feed_run.specs.View.{SourceView, SinkView}
 use Rattle.feed_run.proofs.ProgressLaws.{Follows}
 
 -- what follows from what each standby has answered, and holds before the first delivery
-pub some-weaker : {S : Type 0} (answered : S → Answers) (q : Answers) → ((standby : S) → Follows (answered standby) q) → ((threads sessions : ℕ) → q threads sessions [] []) → Follows (SomeAnswered answered) q
+pub some-weaker : {S : Type 0} (answered : S → Meaning) (q : Meaning) → ((standby : S) → Follows (answered standby) q) → ((threads sessions : ℕ) → q threads sessions [] []) → Follows (SomeAnswered answered) q
 some-weaker answered q f nothing threads sessions ds out (inl (none, empty)) =
     subst (λ (l : List RawDelivery). q threads sessions l out) (sym none) (subst (q threads sessions []) (sym empty) (nothing threads sessions))
 some-weaker answered q f nothing threads sessions ds out (inr (standby, h)) = f standby threads sessions ds out h
 
-module _ (p q : Answers) (n m : Asks) (means : Follows p q) (asks : (threads : ℕ) (ds : List RawDelivery) → n threads ds → m threads ds) where
+module _ (p q : Meaning) (n m : Unbuilt) (means : Follows p q) (asks : (threads : ℕ) (ds : List RawDelivery) → n threads ds → m threads ds) where
   one-weaker : (taken written : List ℕ) → HasOneMore p taken written → HasOneMore q taken written
   one-weaker taken written h = record { threads = h.threads; sessions = h.sessions; deliveries = h.deliveries; last = h.last; feed = h.feed; read = h.read; ran = means h.threads h.sessions _ written h.ran }
 

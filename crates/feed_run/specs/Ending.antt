@@ -9,7 +9,7 @@ use Rattle.adg_model.specs.declared.fault.RedoFault.{RedoFault}
 use Rattle.adg_model.specs.Feed.{Item, IsHeader, IsFeed, FeedFails, opening_bytes, deliveries_bytes, feed_bytes}
 use Rattle.adg_model.specs.Sound.{IsRedoFault}
 use Rattle.feed_run.specs.Report.{feed_line, redo_line, not_built_line, usage_line}
-use Rattle.feed_run.specs.Standby.{Answers, Asks, deliveries_of}
+use Rattle.feed_run.specs.Standby.{Meaning, Unbuilt, deliveries_of}
 
 -- how a run ends
 pub data Ending : Type 0 where
@@ -48,13 +48,13 @@ abbrev pub read_bytes : (threads sessions : ℕ) → List (List Item) → List �
 read_bytes threads sessions deliveries = opening_bytes threads sessions ++ deliveries_bytes deliveries
 
 -- a whole feed was read, through its stop frame and no further, and answered
-pub record HasEnded (answers : Answers) (taken written : List ℕ) : Type 0 where
+pub record HasEnded (meaning : Meaning) (taken written : List ℕ) : Type 0 where
   pub threads : ℕ
   pub sessions : ℕ
   pub deliveries : List (List Item)
   pub feed : IsFeed threads sessions deliveries
   pub read : taken ≡ feed_bytes threads sessions deliveries
-  pub ran : answers threads sessions (deliveries_of deliveries) written
+  pub ran : meaning threads sessions (deliveries_of deliveries) written
 
 -- Nothing is wrong with these bytes but that they end: some of an opening, or an opening, whole deliveries and
 -- some of another.
@@ -64,35 +64,35 @@ IsFeedFront bytes threads sessions deliveries = FeedFails bytes threads sessions
 -- The bytes of the source have this first fault, and the deliveries before it were answered. No more bytes were
 -- taken than show it: they have it themselves, and, where it is not that they end, they have no other fault
 -- than that without the last of them.
-pub record HasFeedFault (answers : Answers) (source : Option (List ℕ)) (kind : FeedKind) (byte : ℕ) (taken written : List ℕ) : Type 0 where
+pub record HasFeedFault (meaning : Meaning) (source : Option (List ℕ)) (kind : FeedKind) (byte : ℕ) (taken written : List ℕ) : Type 0 where
   pub threads : ℕ
   pub sessions : ℕ
   pub deliveries : List (List Item)
   pub fails : IfSome source (λ bytes. FeedFails bytes threads sessions deliveries kind byte)
   pub shown : FeedFails taken threads sessions deliveries kind byte
   pub at_once : kind ≢ kinds.Truncated → IsFeedFront (without_last taken) threads sessions deliveries
-  pub ran : answers threads sessions (deliveries_of deliveries) written
+  pub ran : meaning threads sessions (deliveries_of deliveries) written
 
 -- deliveries were answered, and one more was read
-pub record HasOneMore (answers : Answers) (taken written : List ℕ) : Type 0 where
+pub record HasOneMore (meaning : Meaning) (taken written : List ℕ) : Type 0 where
   pub threads : ℕ
   pub sessions : ℕ
   pub deliveries : List (List Item)
   pub last : List Item
   pub feed : IsFeed threads sessions (deliveries ++ last ∷ [])
   pub read : taken ≡ read_bytes threads sessions (deliveries ++ last ∷ [])
-  pub ran : answers threads sessions (deliveries_of deliveries) written
+  pub ran : meaning threads sessions (deliveries_of deliveries) written
 
-abbrev pub all_of : {answers : Answers} {taken written : List ℕ} → HasOneMore answers taken written → List RawDelivery
+abbrev pub all_of : {meaning : Meaning} {taken written : List ℕ} → HasOneMore meaning taken written → List RawDelivery
 all_of h = deliveries_of (h.deliveries ++ h.last ∷ [])
 
 -- with the last delivery the redo has this fault
-pub record HasRedoFault (answers : Answers) (fault : RedoFault) (taken written : List ℕ) : Type 0 where
-  pub one : HasOneMore answers taken written
+pub record HasRedoFault (meaning : Meaning) (fault : RedoFault) (taken written : List ℕ) : Type 0 where
+  pub one : HasOneMore meaning taken written
   pub bad : IsRedoFault one.threads (all_of one) fault
 
 -- the header asks for what is not built, and nothing was read after it
-pub record HasUnbuiltHeader (unbuilt : Asks) (taken written : List ℕ) : Type 0 where
+pub record HasUnbuiltHeader (unbuilt : Unbuilt) (taken written : List ℕ) : Type 0 where
   pub threads : ℕ
   pub sessions : ℕ
   pub header : IsHeader threads sessions
@@ -101,44 +101,44 @@ pub record HasUnbuiltHeader (unbuilt : Asks) (taken written : List ℕ) : Type 0
   pub asks : unbuilt threads []
 
 -- with the last delivery they ask for what is not built
-pub record HasUnbuilt (answers : Answers) (unbuilt : Asks) (taken written : List ℕ) : Type 0 where
-  pub one : HasOneMore answers taken written
+pub record HasUnbuilt (meaning : Meaning) (unbuilt : Unbuilt) (taken written : List ℕ) : Type 0 where
+  pub one : HasOneMore meaning taken written
   pub asks : unbuilt one.threads (all_of one)
 
 -- nothing is wrong with these bytes but that they end, and the deliveries that are whole in them were answered
-pub record HasRunFront (answers : Answers) (bytes written : List ℕ) : Type 0 where
+pub record HasRunFront (meaning : Meaning) (bytes written : List ℕ) : Type 0 where
   pub threads : ℕ
   pub sessions : ℕ
   pub deliveries : List (List Item)
   pub front : IsFeedFront bytes threads sessions deliveries
-  pub ran : answers threads sessions (deliveries_of deliveries) written
+  pub ran : meaning threads sessions (deliveries_of deliveries) written
 
 -- the last delivery was answered, and of its lines a front was written, but not all
-pub record IsCutTranscript (answers : Answers) (taken written : List ℕ) : Type 0 where
+pub record IsCutTranscript (meaning : Meaning) (taken written : List ℕ) : Type 0 where
   pub before : List ℕ
   pub front : List ℕ
   pub cut : List ℕ
-  pub one : HasOneMore answers taken before
-  pub ran : answers one.threads one.sessions (all_of one) (before ++ (front ++ cut))
+  pub one : HasOneMore meaning taken before
+  pub ran : meaning one.threads one.sessions (all_of one) (before ++ (front ++ cut))
   pub some : cut ≢ []
   pub written_is : written ≡ before ++ front
 
 -- How the run of a feed stops, before a line is written that says so. Where memory was wanting, a delivery
 -- that the last byte taken ended may not have been answered.
-abbrev pub Stops : Answers → Asks → Ending → Option (List ℕ) → (taken written : List ℕ) → Type 0
-Stops answers unbuilt FeedRead source taken written = HasEnded answers taken written
-Stops answers unbuilt WordsRefused source taken written = ⊥
-Stops answers unbuilt (FeedRefused kind byte) source taken written = HasFeedFault answers source kind byte taken written
-Stops answers unbuilt (RedoRefused fault) source taken written = HasRedoFault answers fault taken written
-Stops answers unbuilt SourceFailed source taken written = HasRunFront answers taken written
-Stops answers unbuilt SinkFailed source taken written = IsCutTranscript answers taken written
-Stops answers unbuilt NoMemory source taken written = HasRunFront answers taken written ⊎ HasRunFront answers (without_last taken) written
-Stops answers unbuilt NotBuilt source taken written = HasUnbuiltHeader unbuilt taken written ⊎ HasUnbuilt answers unbuilt taken written
+abbrev pub Stops : Meaning → Unbuilt → Ending → Option (List ℕ) → (taken written : List ℕ) → Type 0
+Stops meaning unbuilt FeedRead source taken written = HasEnded meaning taken written
+Stops meaning unbuilt WordsRefused source taken written = ⊥
+Stops meaning unbuilt (FeedRefused kind byte) source taken written = HasFeedFault meaning source kind byte taken written
+Stops meaning unbuilt (RedoRefused fault) source taken written = HasRedoFault meaning fault taken written
+Stops meaning unbuilt SourceFailed source taken written = HasRunFront meaning taken written
+Stops meaning unbuilt SinkFailed source taken written = IsCutTranscript meaning taken written
+Stops meaning unbuilt NoMemory source taken written = HasRunFront meaning taken written ⊎ HasRunFront meaning (without_last taken) written
+Stops meaning unbuilt NotBuilt source taken written = HasUnbuiltHeader unbuilt taken written ⊎ HasUnbuilt meaning unbuilt taken written
 
 -- the run of a feed stopped, and then the line of its ending was written
-pub record StopsWithLine (answers : Answers) (unbuilt : Asks) (ending : Ending) (source : Option (List ℕ)) (taken written : List ℕ) : Type 0 where
+pub record StopsWithLine (meaning : Meaning) (unbuilt : Unbuilt) (ending : Ending) (source : Option (List ℕ)) (taken written : List ℕ) : Type 0 where
   pub before : List ℕ
-  pub stops : Stops answers unbuilt ending source taken before
+  pub stops : Stops meaning unbuilt ending source taken before
   pub then_line : written ≡ before ++ line_of ending
 
 -- the endings of the run of a feed that a line tells
@@ -149,29 +149,29 @@ HasLine NotBuilt = Unit {0}
 HasLine _ = ⊥
 
 -- the same, but of the line only a front was written
-pub record StopsInLine (answers : Answers) (unbuilt : Asks) (source : Option (List ℕ)) (taken written : List ℕ) : Type 0 where
+pub record StopsInLine (meaning : Meaning) (unbuilt : Unbuilt) (source : Option (List ℕ)) (taken written : List ℕ) : Type 0 where
   pub ending : Ending
   pub told : HasLine ending
   pub before : List ℕ
   pub front : List ℕ
   pub cut : List ℕ
-  pub stops : Stops answers unbuilt ending source taken before
+  pub stops : Stops meaning unbuilt ending source taken before
   pub line : front ++ cut ≡ line_of ending
   pub some : cut ≢ []
   pub written_is : written ≡ before ++ front
 
 -- the same, but there was no memory for the line
-pub record StopsBeforeLine (answers : Answers) (unbuilt : Asks) (source : Option (List ℕ)) (taken written : List ℕ) : Type 0 where
+pub record StopsBeforeLine (meaning : Meaning) (unbuilt : Unbuilt) (source : Option (List ℕ)) (taken written : List ℕ) : Type 0 where
   pub ending : Ending
   pub told : HasLine ending
-  pub stops : Stops answers unbuilt ending source taken written
+  pub stops : Stops meaning unbuilt ending source taken written
 
 -- how the run of a feed ends, with the line that says so
-abbrev pub RunEnds : Answers → Asks → Option (List ℕ) → Ending → (taken written : List ℕ) → Type 0
-RunEnds answers unbuilt source WordsRefused taken written = ⊥
-RunEnds answers unbuilt source SinkFailed taken written = IsCutTranscript answers taken written ⊎ StopsInLine answers unbuilt source taken written
-RunEnds answers unbuilt source NoMemory taken written = Stops answers unbuilt NoMemory source taken written ⊎ StopsBeforeLine answers unbuilt source taken written
-RunEnds answers unbuilt source ending taken written = StopsWithLine answers unbuilt ending source taken written
+abbrev pub RunEnds : Meaning → Unbuilt → Option (List ℕ) → Ending → (taken written : List ℕ) → Type 0
+RunEnds meaning unbuilt source WordsRefused taken written = ⊥
+RunEnds meaning unbuilt source SinkFailed taken written = IsCutTranscript meaning taken written ⊎ StopsInLine meaning unbuilt source taken written
+RunEnds meaning unbuilt source NoMemory taken written = Stops meaning unbuilt NoMemory source taken written ⊎ StopsBeforeLine meaning unbuilt source taken written
+RunEnds meaning unbuilt source ending taken written = StopsWithLine meaning unbuilt ending source taken written
 
 -- nothing was read, and the usage line was written, or a front of it
 pub record IsUsage (taken written cut : List ℕ) : Type 0 where

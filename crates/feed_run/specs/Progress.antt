@@ -10,14 +10,14 @@ use Rattle.feed_frames.specs.declared.phase.Phase.TheVariants.{Open}
 use Rattle.feed_frames.specs.Intake.{Took}
 use Rattle.feed_run.specs.Ending.{Ending, HasLine, line_of, status_of, FeedRead, FeedRefused, RedoRefused, SourceFailed, SinkFailed, NoMemory, NotBuilt, Stops, read_bytes}
 use Rattle.feed_run.specs.Headline.{counted}
-use Rattle.feed_run.specs.Standby.{Answers, Asks, deliveries_of}
+use Rattle.feed_run.specs.Standby.{Meaning, Unbuilt, deliveries_of}
 use Rattle.feed_run.specs.View.{SinkView}
 use Rattle.feed_run.specs.declared.refusal.Refusal.{Refusal}
 use Rattle.feed_run.specs.declared.refusal.Refusal.TheVariants as refusals
 use Rattle.feed_run.specs.declared.standby.Unanswered.TheVariants as unanswered
 
 -- The reader stands before a delivery, and those before it were answered.
-pub record IsAt (answers : Answers) (source from sink held : Option (List ℕ)) (reader : FeedState) (written : ℕ) : Type 0 where
+pub record IsAt (meaning : Meaning) (source from sink held : Option (List ℕ)) (reader : FeedState) (written : ℕ) : Type 0 where
   pub threads : ℕ
   pub sessions : ℕ
   pub deliveries : List (List Item)
@@ -26,7 +26,7 @@ pub record IsAt (answers : Answers) (source from sink held : Option (List ℕ)) 
   pub phase : reader.phase ≡ Open
   pub standing : reader.standing ≡ after_deliveries (start threads sessions) deliveries
   pub took : Took source from 0 reader.taken (read_bytes threads sessions deliveries)
-  pub ran : answers threads sessions (deliveries_of deliveries) output
+  pub ran : meaning threads sessions (deliveries_of deliveries) output
   pub wrote : Appends sink held output
   pub written_count : written ≡ counted output
 
@@ -45,13 +45,13 @@ ending_of (Err (refusals.Delivery unanswered.Memory)) = NoMemory
 ending_of (Err refusals.Write) = SinkFailed
 
 -- the run of a feed stopped with a result: what it took and wrote until then
-pub record RunStops (answers : Answers) (unbuilt : Asks) (source from sink held : Option (List ℕ)) (taken written : ℕ) (ending : Ending) : Type 0 where
+pub record RunStops (meaning : Meaning) (unbuilt : Unbuilt) (source from sink held : Option (List ℕ)) (taken written : ℕ) (ending : Ending) : Type 0 where
   pub bytes : List ℕ
   pub output : List ℕ
   pub took : Took source from 0 taken bytes
   pub wrote : Appends sink held output
   pub written_count : written ≡ counted output
-  pub stops : Stops answers unbuilt ending source bytes output
+  pub stops : Stops meaning unbuilt ending source bytes output
 
 -- a piece was written, or a front of it where the sink failed
 pub record WroteFront (sink sink_now : SinkView) (before after : ℕ) (piece : List ℕ) : Type 0 where

@@ -2,8 +2,8 @@ use Rattle.std.proofs.Common.{ap, ◌∙◌, ℕ}
 use Rattle.adg_model.specs.Database.{no_database}
 use Rattle.imadg_top.specs.Run.{ran, scn_after}
 use Rattle.imadg_top.specs.Served.{vectors_of}
-use Rattle.imadg_top.proofs.StandbyLaws.{has-records, run-more, untaken-more}
-use Rattle.imadg_top.proofs.applier.Standby.run_redo.Goals as goal
+use Rattle.imadg_top.proofs.ApplierLaws.{has-records, run-more, untaken-more}
+use Rattle.imadg_top.proofs.applier.Applier.run_redo.Goals as goal
 
 pub returns-in-Ok-apply_all-clause-run : goal.returns-in-Ok-apply_all-clause-run
 returns-in-Ok-apply_all-clause-run c text records h =

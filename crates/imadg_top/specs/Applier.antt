@@ -1,13 +1,13 @@
--- What the plain standby has run.
+-- What the applier has run.
 use Rattle.std.specs.Prelude.{◌≡◌, ℕ, List, [], ◌++◌, Result, Ok, Err, ◌⊎◌, string_bytes, String}
 use Rattle.std.specs.Global.{Global}
 use Rattle.adg_base.specs.declared.vector.RedoRecord.{RedoRecord}
 use Rattle.adg_model.specs.Records.{HasRecords}
 use Rattle.adg_model.specs.Log.{thread_mark}
 use Rattle.adg_model.specs.Database.{no_database}
-use Rattle.imadg_top.specs.declared.applier.Standby.{Standby}
-use Rattle.imadg_top.specs.declared.refusal.Refusal.{Refusal}
-use Rattle.imadg_top.specs.declared.refusal.Refusal.TheVariants.{Feed, Redo, NotBuilt, Write, Memory}
+use Rattle.imadg_top.specs.declared.applier.Applier.{Applier}
+use Rattle.feed_run.specs.declared.standby.Unanswered.{Unanswered}
+use Rattle.feed_run.specs.declared.standby.Unanswered.TheVariants.{Redo, NotBuilt, Memory}
 use Rattle.adg_model.specs.declared.delivery.RawDelivery.{RawDelivery}
 use Rattle.adg_model.specs.Reply.{end_line_bytes}
 use Rattle.adg_model.specs.Transcript.{all_asked}
@@ -19,14 +19,14 @@ use Rattle.imadg_top.specs.Run.{ran, TakesAll}
 use Rattle.imadg_top.specs.Served.{vectors_of}
 
 -- the redo of a text was received and its vectors were applied: these are its records
-pub record HasRun (s : Standby) (text : List ℕ) (records : List RedoRecord) : Type 0 where
+pub record HasRun (s : Applier) (text : List ℕ) (records : List RedoRecord) : Type 0 where
   pub thread : HasTakenAll s.assembler text records
   pub takes : TakesAll no_database (vectors_of records)
   pub shows : Shows s.store (ran no_database (vectors_of records))
   pub frontier : s.frontier ≡ (thread_mark records).scn
 
 -- the same of a longer text, with more records
-pub record RunsOn (s : Standby) (text : List ℕ) (records : List RedoRecord) : Type 0 where
+pub record RunsOn (s : Applier) (text : List ℕ) (records : List RedoRecord) : Type 0 where
   pub more : List RedoRecord
   pub run : HasRun s text (records ++ more)
 
@@ -37,20 +37,18 @@ pub record HasUntaken (text : List ℕ) : Type 0 where
   pub untaken : TakesAll no_database (vectors_of records) → ⊥
 
 -- why the redo of a delivery is not run, where the text with it is this
-abbrev pub RedoStops : List ℕ → Refusal → Type 0
-RedoStops text (Feed fault) = ⊥
+abbrev pub RedoStops : List ℕ → Unanswered → Type 0
 RedoStops text (Redo fault) = IsBadRecord text fault
 RedoStops text NotBuilt = HasUntaken text
-RedoStops text Write = ⊥
 RedoStops text Memory = Unit {0}
 
-abbrev pub RunsRedo : Standby → List ℕ → List RedoRecord → Result (Unit {0}) Refusal → Type 0
+abbrev pub RunsRedo : Applier → List ℕ → List RedoRecord → Result (Unit {0}) Unanswered → Type 0
 RunsRedo new text records (Ok done) = RunsOn new text records
-RunsRedo new text records (Err refusal) = RedoStops text refusal
+RunsRedo new text records (Err why) = RedoStops text why
 
 -- A delivery was run: its commands were answered over the rows that all records have made, at the SCN of
 -- the last of them, and the end line follows the answers.
-pub record IsDelivered (s : Standby) (sessions : ℕ) (delivery : RawDelivery) (text : List ℕ) (records : List RedoRecord) (printed : List ℕ) : Type 0 where
+pub record IsDelivered (s : Applier) (sessions : ℕ) (delivery : RawDelivery) (text : List ℕ) (records : List RedoRecord) (printed : List ℕ) : Type 0 where
   pub more : List RedoRecord
   pub run : HasRun s text (records ++ more)
   pub answers : List ℕ
@@ -63,10 +61,10 @@ pub record AsksOther (text : List ℕ) (delivery : RawDelivery) : Type 0 where
   pub has : HasRecords text records
   pub other : HasOther delivery.commands
 
-abbrev pub DeliveryStops : RawDelivery → List ℕ → Refusal → Type 0
+abbrev pub DeliveryStops : RawDelivery → List ℕ → Unanswered → Type 0
 DeliveryStops delivery text NotBuilt = HasUntaken text ⊎ AsksOther text delivery
-DeliveryStops delivery text refusal = RedoStops text refusal
+DeliveryStops delivery text why = RedoStops text why
 
-abbrev pub Delivers : Standby → ℕ → RawDelivery → List ℕ → List RedoRecord → Result (String Global) Refusal → Type 0
+abbrev pub Delivers : Applier → ℕ → RawDelivery → List ℕ → List RedoRecord → Result (String Global) Unanswered → Type 0
 Delivers s sessions delivery text records (Ok printed) = IsDelivered s sessions delivery text records (string_bytes printed)
-Delivers s sessions delivery text records (Err refusal) = DeliveryStops delivery text refusal
+Delivers s sessions delivery text records (Err why) = DeliveryStops delivery text why

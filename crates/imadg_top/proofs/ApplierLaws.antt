@@ -7,10 +7,10 @@ use Rattle.adg_model.specs.Log.{thread_mark}
 use Rattle.adg_model.specs.Database.{no_database}
 use Rattle.redo_frames.specs.Assembly.{Assembly}
 use Rattle.redo_frames.specs.Reading.{Stands}
-use Rattle.imadg_top.specs.declared.applier.Standby.{Standby}
+use Rattle.imadg_top.specs.declared.applier.Applier.{Applier}
 use Rattle.imadg_top.specs.Run.{ran, TakesAll, scn_after}
 use Rattle.imadg_top.specs.Served.{vectors_of}
-use Rattle.imadg_top.specs.Standby.{HasRun}
+use Rattle.imadg_top.specs.Applier.{HasRun}
 use Rattle.imadg_top.specs.Store.{Shows}
 use Rattle.imadg_top.specs.Thread.{HasTakenAll}
 use Rattle.imadg_top.proofs.RunLaws.{ran-append, TakesAll-append, TakesAll-after, vectors_of-append, mark-more}
@@ -21,7 +21,7 @@ has-records a text rs h =
     let stands = subst (λ (l : List Raw). Stands a.refused first_mark text l a.rest) held h.has.holds.stands in
     record { rest = a.rest; raws = subst (λ (o : Option FrameKind). Stands o first_mark text (map raw_of rs) a.rest) h.none_refused stands; vectors = h.has.readable }
 
-pub run-more : (s : Standby) (text : List ℕ) (records more : List RedoRecord) → TakesAll no_database (vectors_of records) → HasTakenAll s.assembler text (records ++ more)
+pub run-more : (s : Applier) (text : List ℕ) (records more : List RedoRecord) → TakesAll no_database (vectors_of records) → HasTakenAll s.assembler text (records ++ more)
     → TakesAll (ran no_database (vectors_of records)) (vectors_of more) → Shows s.store (ran (ran no_database (vectors_of records)) (vectors_of more))
     → s.frontier ≡ scn_after (thread_mark records).scn more → HasRun s text (records ++ more)
 run-more s text records more before thread takes shows frontier =
