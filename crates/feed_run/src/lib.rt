@@ -8,3 +8,5 @@ mod report;
 pub mod run;
 pub mod standby;
 mod telling;
+#[cfg(test)]
+mod tests;
