@@ -1,11 +1,11 @@
 pub mod AnsweredLaws
+pub mod ApplierLaws
 pub mod CountLines
 pub mod CountTexts
 pub mod HeadlineLaws
 pub mod LegalLaws
+pub mod ProgressLaws
 pub mod RunLaws
-pub mod StandbyLaws
-pub mod StoppedReading
 pub mod StoreCommit
 pub mod StoreCount
 pub mod StoreKinds
@@ -13,4 +13,3 @@ pub mod StoreRows
 pub mod StoreSteps
 pub mod ThreadLaws
 pub mod TranscriptMore
-pub mod RunMore

@@ -14,17 +14,17 @@ use Rattle.adg_model.specs.Database.{Database, no_database}
 use Rattle.adg_model.specs.Reply.{lines_bytes, line_bytes, end_line_bytes}
 use Rattle.adg_model.specs.Transcript.{Asked, asked_from, all_asked, texts_of, is_abort, IsLegal, LegalFrom, printed}
 use Rattle.adg_model.proofs.LogLaws.{mark_rises, mark_after-append, raws_after}
-use Rattle.imadg_top.specs.declared.applier.Standby.{Standby}
+use Rattle.imadg_top.specs.declared.applier.Applier.{Applier}
 use Rattle.imadg_top.specs.Answered.{AnswersAll, IsCounted}
 use Rattle.imadg_top.specs.Counting.{Counts, CountsSome}
 use Rattle.imadg_top.specs.Headline.{CountsAtEnd}
 use Rattle.imadg_top.specs.Progress.{Transcribed, end_after}
 use Rattle.imadg_top.specs.Run.{ran}
 use Rattle.imadg_top.specs.Served.{vectors_of}
-use Rattle.imadg_top.specs.Standby.{IsDelivered}
+use Rattle.imadg_top.specs.Applier.{IsDelivered}
 use Rattle.imadg_top.proofs.CountTexts.{command_bytes-count}
 use Rattle.imadg_top.proofs.LegalLaws.{legal, plain_all}
-use Rattle.imadg_top.proofs.StandbyLaws.{has-records}
+use Rattle.imadg_top.proofs.ApplierLaws.{has-records}
 use Rattle.imadg_top.proofs.ThreadLaws.{raws-append}
 
 legal-more : (t s : ℕ) (earlier : List RawDelivery) (floor : ℕ) (ds : List RawDelivery) (ls : List Lines) (d : RawDelivery) (l : Lines) (rs : List (List RedoRecord))
@@ -111,7 +111,7 @@ calm [] h e = cc
 calm (c ∷ cs) h e = calm cs h.1 (rw (no_abort c h.0) at e)
 
 -- what is printed of one delivery more is what its lines print
-printed-one : (s : Standby) (n f : ℕ) (answers printed' : List ℕ) (lines : List Line) → s.delivered ≡ n → s.frontier ≡ f → answers ≡ [] ++ flat_map (line_bytes s.delivered) lines
+printed-one : (s : Applier) (n f : ℕ) (answers printed' : List ℕ) (lines : List Line) → s.delivered ≡ n → s.frontier ≡ f → answers ≡ [] ++ flat_map (line_bytes s.delivered) lines
     → printed' ≡ answers ++ end_line_bytes s.delivered s.frontier → printed' ≡ lines_bytes n (record { list = lines; end = f })
 printed-one s n f answers printed' lines number frontier answered e =
     e ∙ ap (λ (t : List ℕ). t ++ end_line_bytes s.delivered s.frontier) answered
@@ -123,7 +123,7 @@ all-ends : (ls : List Lines) (l : Lines) → AllByRecursion CountsAtEnd ls → C
 all-ends [] l h k = (k, tt)
 all-ends (x ∷ xs) l h k = (h.0, all-ends xs l h.1 k)
 
-pub transcribed-more : (s : Standby) (sessions : ℕ) (ds : List RawDelivery) (d : RawDelivery) (records : List RedoRecord) (output printed' : List ℕ) (floor : ℕ)
+pub transcribed-more : (s : Applier) (sessions : ℕ) (ds : List RawDelivery) (d : RawDelivery) (records : List RedoRecord) (output printed' : List ℕ) (floor : ℕ)
     → Transcribed sessions ds output floor → floor ≡ (thread_mark records).scn → s.delivered ≡ length ds + 1
     → IsDelivered s sessions d (thread_text 1 (ds ++ d ∷ [])) records printed' → AllByRecursion (λ (c : CommandText). IsIn sessions c.session) d.commands
     → Transcribed sessions (ds ++ d ∷ []) (output ++ printed') s.frontier
@@ -149,6 +149,6 @@ transcribed-more s sessions ds d records output printed' floor t low number done
     }
 
 -- the commands of a delivery that was run all count
-pub delivered_counts : (s : Standby) (sessions : ℕ) (d : RawDelivery) (text : List ℕ) (records : List RedoRecord) (printed' : List ℕ)
+pub delivered_counts : (s : Applier) (sessions : ℕ) (d : RawDelivery) (text : List ℕ) (records : List RedoRecord) (printed' : List ℕ)
     → IsDelivered s sessions d text records printed' → AllByRecursion (λ (c : CommandText). IsIn sessions c.session) d.commands → AllByRecursion CountsSome d.commands
 delivered_counts s sessions d text records printed' done own = answered_count _ s.frontier sessions d.commands done.answered.lines own done.answered.counted

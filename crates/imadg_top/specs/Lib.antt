@@ -1,12 +1,10 @@
 pub mod Answered
+pub mod Applier
 pub mod Counting
 pub mod Headline
 pub mod Progress
-pub mod Report
 pub mod Run
 pub mod Served
-pub mod Standby
-pub mod Status
 pub mod Store
 pub mod Thread
 pub mod Words

@@ -1,5 +1,5 @@
 -- The accepted lines of words.
-use Rattle.std.specs.Prelude.{ℕ, ◌-◌, nat_le, ◌&&◌, if◌then◌else◌, List, [], ◌∷◌, ◌++◌, take, drop, Option, Some, None, codes}
+use Rattle.std.specs.Prelude.{ℕ, ◌-◌, nat_le, ◌&&◌, if◌then◌else◌, List, [], ◌∷◌, take, drop, Option, Some, None, codes}
 use Rattle.std.specs.Str.{bytes_eq}
 
 -- one decimal digit from 1 to 8
@@ -21,7 +21,3 @@ workers_of (mode ∷ []) = None
 workers_of (mode ∷ option ∷ []) = joined mode option
 workers_of (mode ∷ name ∷ value ∷ []) = separate mode name value
 workers_of (mode ∷ name ∷ value ∷ other ∷ more) = None
-
--- the line that is written where the words are no accepted line
-abbrev pub usage_line : List ℕ
-usage_line = codes "usage: imadg step|run|soak|audit [--workers N] [--seed N] [--txns N]" ++ 0x0a ∷ []

@@ -3,12 +3,8 @@
 
 mod applier;
 mod lines;
-mod outcome;
 mod query;
-mod refusal;
 mod reply;
-mod report;
-mod run;
 mod store;
 #[cfg(test)]
 mod tests;
@@ -16,5 +12,5 @@ mod thread;
 mod top;
 mod words;
 
-pub use outcome::{Outcome, Status};
+pub use feed_run::outcome::{Outcome, Status};
 pub use top::{standby, stepped};

@@ -1,8 +1,8 @@
-use crate::outcome::Outcome;
 use crate::top::{standby, stepped};
 use adg_io::gate::OpenGate;
 use adg_io::memory_sink::MemSink;
 use adg_io::memory_source::MemSource;
+use feed_run::outcome::Outcome;
 use std::alloc::Global;
 use std::process::Abort;
 use std::sync::Wait;
