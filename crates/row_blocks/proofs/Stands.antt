@@ -184,7 +184,7 @@ ends_parted log frontier h floor = (
     high pos scn l (inl p) = let m : scn ≤ floor = p.0 in absurd (omega arith)
     high pos scn l (inr p) = p.1
 
--- THE THEOREM at each SCN from the floor on whose entries are applied: the pick over an address's versions,
+-- At each SCN from the floor on whose entries are applied, the pick over an address's versions,
 -- with the ends of the log, is the committed row.
 pub stands_picked : (log : List LogEntry) (frontier : ℕ) → IsLog log frontier → (kept : Kept) (floor q : ℕ) → StandsFor kept log floor → floor ≤ q → HasApplied kept log q
     → (a : Place) → IsSlot a → shard_of_block a.obj a.block ≡ kept.number → picked_by (commits_at log q) (kept.versions a) ≡ rows_at log q a
@@ -392,7 +392,7 @@ holds_same x y log e s = record {
   versions = λ a slot. e.versions a slot ∙ s.versions a slot ∙ ap₂ (λ n p. versions_of (own_below n p log) a) (sym e.number) (sym e.applied);
 }
 
--- THE LOG GROWS: entries that continue it, all above the floor
+-- The log grows by entries that are all above the floor.
 own_longer : (n pos : ℕ) (log more : List LogEntry) → Placed 0 (log ++ more) → pos ≤ length log → own_below n pos (log ++ more) ≡ own_below n pos log
 own_longer n pos log more places l =
     filter-append (λ x. is_own n x && nat_lt x.pos pos) log more

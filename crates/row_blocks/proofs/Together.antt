@@ -190,7 +190,7 @@ stand_continued shards log entries first floor old new h c l s = record {
   passed = s.passed;
 }
 
--- THE FLOOR RISES to any SCN whose entries are applied, with the versions as they are.
+-- The floor rises to any SCN whose entries are applied, with the versions as they are.
 late_lower : (floor next : ℕ) (x : Option End) → floor ≤ next → is_late next x ≡ true → is_late floor x ≡ true
 late_lower floor next None l h = refl
 late_lower floor next (Some e) l h = let k : next < e.scn = ltb-true next e.scn h in lt-ltb floor e.scn (omega arith)
