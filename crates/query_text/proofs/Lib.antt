@@ -1,0 +1,4 @@
+pub mod Apart
+pub mod Stopping
+pub mod Words
+pub mod Numbers

@@ -1,0 +1,90 @@
+-- The parts of a command: what has a spelling, the spelling, and what may follow it.
+use Rattle.std.specs.Prelude.{◌≡◌, ◌≢◌, ℕ, ℤ, pos, ◌<◌, ◌≤◌, Bool, true, false, List, [], ◌∷◌, ◌++◌, length, Option, Some, None, codes}
+use Rattle.std.specs.List.{AllByRecursion}
+use Rattle.std.specs.Fmt.{decimal}
+use Rattle.adg_base.specs.declared.value.Value.{Value}
+use Rattle.adg_base.specs.declared.value.Value.TheVariants.{Null}
+use Rattle.adg_base.specs.declared.command.Select.{Select}
+use Rattle.adg_base.specs.declared.command.Condition.{Condition}
+use Rattle.adg_base.specs.declared.command.Op.{Op}
+use Rattle.adg_base.specs.declared.command.What.{What}
+use Rattle.adg_base.specs.declared.command.What.TheVariants.{All, Aggregates}
+use Rattle.adg_base.specs.declared.command.Aggregate.{Aggregate}
+use Rattle.adg_model.specs.Spelling.{IsObj, IsValue}
+use Rattle.adg_model.specs.Command.{literal_bytes, op_bytes, aggregates_bytes, where_bytes, group_bytes, what_bytes, IsAggregate, IsCondition, IsGroup, IsSelect}
+
+abbrev pub IsDigit : ℕ → Type 0
+IsDigit c = (48 ≤ c) × (c ≤ 57)
+
+-- a text does not begin with a byte of a sort
+abbrev pub BeginsElse : (ℕ → Type 0) → List ℕ → Type 0
+BeginsElse Is [] = Unit {0}
+BeginsElse Is (c ∷ text) = Is c → ⊥
+
+-- no digit goes on here
+abbrev pub EndsNumber : List ℕ → Type 0
+EndsNumber rest = BeginsElse IsDigit rest
+
+-- a number from 1 to a limit
+abbrev pub IsNumber : ℕ → ℕ → Type 0
+IsNumber limit n = (1 ≤ n) × (n ≤ limit)
+
+abbrev pub IsZero : ℤ → Type 0
+IsZero z = z ≡ pos 0
+
+-- a literal is a value, and not Null
+abbrev pub IsLiteral : Value → Type 0
+IsLiteral v = IsValue v × (v ≢ Null)
+
+-- between blanks
+abbrev pub spaced_op : Op → List ℕ
+spaced_op op = codes " " ++ op_bytes op ++ codes " "
+
+-- a test, from the number of its column on
+abbrev pub test_bytes : Condition → List ℕ
+test_bytes c = decimal c.column ++ (spaced_op c.op ++ literal_bytes c.literal)
+
+-- tests, the first behind a word, the others behind AND
+abbrev pub tests_bytes : List ℕ → List Condition → List ℕ
+tests_bytes word [] = []
+tests_bytes word (c ∷ more) = word ++ (test_bytes c ++ tests_bytes (codes " AND c") more)
+
+-- what stands behind a table: tests, and the column of a group
+abbrev pub Tail : Type 0
+Tail = List Condition × Option ℕ
+
+abbrev pub tail_bytes : List ℕ → Tail → List ℕ
+tail_bytes word t = tests_bytes word t.0 ++ group_bytes t.1
+
+-- only a query of aggregates is grouped
+abbrev pub IsGroupIn : Bool → Option ℕ → Type 0
+IsGroupIn true group = IsGroup group
+IsGroupIn false group = group ≡ None
+
+abbrev pub IsTail : Bool → Tail → Type 0
+IsTail grouped t = AllByRecursion IsCondition t.0 × IsGroupIn grouped t.1
+
+-- a table, from its number on
+abbrev pub table_tail_bytes : (ℕ × Tail) → List ℕ
+table_tail_bytes t = decimal t.0 ++ tail_bytes (codes " WHERE c") t.1
+
+abbrev pub IsTable : Bool → (ℕ × Tail) → Type 0
+IsTable grouped t = IsObj t.0 × IsTail grouped t.1
+
+-- aggregates, up to the number of the table
+abbrev pub asked_bytes : List Aggregate → List ℕ
+asked_bytes aggregates = aggregates_bytes aggregates ++ codes " FROM t"
+
+abbrev pub AreAsked : List Aggregate → Type 0
+AreAsked aggregates = (1 ≤ length aggregates) × AllByRecursion IsAggregate aggregates
+
+-- a query, from what it asks for on
+abbrev pub query_bytes : Select → List ℕ
+query_bytes s = what_bytes s.what ++ (codes " FROM t" ++ table_tail_bytes (s.obj, (s.conditions, s.group)))
+
+-- a query of rows, and one of aggregates
+abbrev pub AsksRows : Select → Type 0
+AsksRows s = IsSelect s × (s.what ≡ All)
+
+abbrev pub AsksSums : Select → Type 0
+AsksSums s = IsSelect s × (s.what ≢ All)
