@@ -12,7 +12,7 @@ use Rattle.std.proofs.lemmas.List.{append-nil, length-append, get_or_append_left
 use Rattle.query_text.specs.Stopping.{first, Stops, Refuses, Spelled, Front, Takes, Reads}
 use Rattle.query_text.specs.declared.fault.Fault.{Fault}
 use Rattle.adg_model.specs.Spelling.{IsObj}
-use Rattle.query_text.specs.Parts.{IsDigit, BeginsElse, EndsNumber, IsNumber, IsZero}
+use Rattle.query_text.specs.Parts.{IsDigit, EndsNumber, Ended, IsNumber, IsZero}
 use Rattle.query_text.proofs.Stopping.{heads, stops_in, stops_as, refuses}
 use Rattle.query_text.proofs.Apart.{decimal_digits, decimal_first}
 
@@ -61,7 +61,7 @@ number_first limit m k lim good =
     (omega arith, digit.1)
 
 abbrev pub NumberStops : ℕ → List ℕ → ℕ → Type 0
-NumberStops limit text left = Stops (Spelled (IsNumber limit) decimal) (Front EndsNumber (IsNumber limit) decimal) text left
+NumberStops limit text left = Stops (Spelled (IsNumber limit) decimal) (Front Ended (IsNumber limit) decimal) text left
 
 no_number : (limit : ℕ) (text : List ℕ) → 9 ≤ limit → limit < 2 ^ 64 → (49 ≤ get_or text 0 0 → get_or text 0 0 ≤ 57 → ⊥) → NumberStops limit text (length text)
 no_number limit text low lim bad =
@@ -76,7 +76,7 @@ no_number limit text low lim bad =
       longest = λ c cs later is f. not_here f (c ∷ later) f.is (ap (λ l. get_or l 0 0) (sym is));
     }
   where
-    not_here : {x : List ℕ} → (f : Front EndsNumber (IsNumber limit) decimal x) → (y : List ℕ) → y ≡ decimal f.value ++ f.rest → get_or y 0 0 ≡ get_or text 0 0 → ⊥
+    not_here : {x : List ℕ} → (f : Front Ended (IsNumber limit) decimal x) → (y : List ℕ) → y ≡ decimal f.value ++ f.rest → get_or y 0 0 ≡ get_or text 0 0 → ⊥
     not_here f y is same =
         let d = number_first limit f.value f.rest lim f.good in
         let e : get_or y 0 0 ≡ get_or (decimal f.value ++ f.rest) 0 0 = ap (λ l. get_or l 0 0) is in
@@ -146,17 +146,17 @@ no_digits limit bytes rest low lim ends n is (inl h) =
     subst (λ l. NumberStops limit l (length rest)) h.1 (no_number limit rest low lim (no_digit rest ends))
 no_digits limit bytes rest low lim ends n is (inr h) = absurd (omega (arith, h.0))
 
-pub whole_number : (limit : ℕ) (bytes rest : List ℕ) (n : ℕ) → EndsNumber rest → (n ≡ 0 → ⊥) → HasDigits limit bytes n rest → Takes EndsNumber (IsNumber limit) decimal bytes n rest
+pub whole_number : (limit : ℕ) (bytes rest : List ℕ) (n : ℕ) → EndsNumber rest → (n ≡ 0 → ⊥) → HasDigits limit bytes n rest → Takes Ended (IsNumber limit) decimal bytes n rest
 whole_number limit bytes rest n ends some (inl h) = absurd (some h.0)
 whole_number limit bytes rest n ends some (inr h) = record { good = h.0; ends = ends; is = h.1 }
 
 -- ---- integers
 
 abbrev pub IntegerStops : List ℕ → ℕ → Type 0
-IntegerStops text left = Stops (Spelled (FitsSigned w64) signed_decimal) (Front EndsNumber (FitsSigned w64) signed_decimal) text left
+IntegerStops text left = Stops (Spelled (FitsSigned w64) signed_decimal) (Front Ended (FitsSigned w64) signed_decimal) text left
 
 abbrev pub ZeroStops : List ℕ → ℕ → Type 0
-ZeroStops text left = Stops (Spelled IsZero signed_decimal) (Front EndsNumber IsZero signed_decimal) text left
+ZeroStops text left = Stops (Spelled IsZero signed_decimal) (Front Ended IsZero signed_decimal) text left
 
 zero_is : decimal 0 ≡ 48 ∷ []
 zero_is = decimal_digit 0 (omega arith)
@@ -181,11 +181,11 @@ zero_stops behind rest d le is =
         behind_zero f.value f.rest (c ∷ later) f.good f.ends f.is (subst IsDigit (sym same) (digit_is d le));
     }
 
-pub zero_takes : (behind : List ℕ) → EndsNumber behind → Takes EndsNumber IsZero signed_decimal (48 ∷ behind) (pos 0) behind
+pub zero_takes : (behind : List ℕ) → EndsNumber behind → Takes Ended IsZero signed_decimal (48 ∷ behind) (pos 0) behind
 zero_takes behind ends = record { good = refl; ends = ends; is = ap (λ l. l ++ behind) (sym zero_is) }
 
 -- behind a minus
-pub minus_takes : (digits rest : List ℕ) (n : ℕ) → Takes EndsNumber (IsNumber (2 ^ 63)) decimal digits n rest → Takes EndsNumber (FitsSigned w64) signed_decimal (45 ∷ digits) (negsuc (n - 1)) rest
+pub minus_takes : (digits rest : List ℕ) (n : ℕ) → Takes Ended (IsNumber (2 ^ 63)) decimal digits n rest → Takes Ended (FitsSigned w64) signed_decimal (45 ∷ digits) (negsuc (n - 1)) rest
 minus_takes digits rest n t =
     let good = t.good in
     let is : n ≡ suc (n - 1) = omega (arith, good.0) in
@@ -194,16 +194,16 @@ minus_takes digits rest n t =
 no_minus : (n : ℕ) (rest x : List ℕ) → n < 2 ^ 64 → 45 ∷ x ≡ decimal n ++ rest → ⊥
 no_minus n rest x small e = let d = decimal_first n rest small in omega (arith, d.0, ap (λ l. get_or l 0 0) e)
 
-behind_minus : (x : List ℕ) → Front EndsNumber (FitsSigned w64) signed_decimal (45 ∷ x) → Front EndsNumber (IsNumber (2 ^ 63)) decimal x
+behind_minus : (x : List ℕ) → Front Ended (FitsSigned w64) signed_decimal (45 ∷ x) → Front Ended (IsNumber (2 ^ 63)) decimal x
 behind_minus x f = cases f.value f.rest f.good f.ends f.is
   where
-    cases : (z : ℤ) (rest : List ℕ) → FitsSigned w64 z → EndsNumber rest → 45 ∷ x ≡ signed_decimal z ++ rest → Front EndsNumber (IsNumber (2 ^ 63)) decimal x
+    cases : (z : ℤ) (rest : List ℕ) → FitsSigned w64 z → EndsNumber rest → 45 ∷ x ≡ signed_decimal z ++ rest → Front Ended (IsNumber (2 ^ 63)) decimal x
     cases (pos n) rest good ends e = absurd (no_minus n rest x (omega (arith, good)) e)
     cases (negsuc n) rest good ends e = record { value = suc n; rest = rest; good = (omega arith, omega (arith, good)); ends = ends; is = ap (drop 1) e }
 
 pub minus_stops : (digits : List ℕ) (left : ℕ) → NumberStops (2 ^ 63) digits left → IntegerStops (45 ∷ digits) left
 minus_stops digits left s =
-    stops_in (Spelled (IsNumber (2 ^ 63)) decimal) (Front EndsNumber (IsNumber (2 ^ 63)) decimal) (Spelled (FitsSigned w64) signed_decimal) (Front EndsNumber (FitsSigned w64) signed_decimal) (45 ∷ []) digits left
+    stops_in (Spelled (IsNumber (2 ^ 63)) decimal) (Front Ended (IsNumber (2 ^ 63)) decimal) (Spelled (FitsSigned w64) signed_decimal) (Front Ended (FitsSigned w64) signed_decimal) (45 ∷ []) digits left
       (λ x h.
         let good = h.good in
         let is : h.value ≡ suc (h.value - 1) = omega (arith, good.0) in
@@ -212,18 +212,18 @@ minus_stops digits left s =
       s
 
 -- an integer that begins with a 0, and one that begins with neither a 0 nor a minus
-integer_first : (x : List ℕ) → Front EndsNumber (FitsSigned w64) signed_decimal x → (first x ≡ Some 45 → ⊥) → Front EndsNumber IsZero signed_decimal x ⊎ Front EndsNumber (IsNumber (2 ^ 63 - 1)) decimal x
+integer_first : (x : List ℕ) → Front Ended (FitsSigned w64) signed_decimal x → (first x ≡ Some 45 → ⊥) → Front Ended IsZero signed_decimal x ⊎ Front Ended (IsNumber (2 ^ 63 - 1)) decimal x
 integer_first x f no_sign = cases f.value f.rest f.good f.ends f.is
   where
-    cases : (z : ℤ) (rest : List ℕ) → FitsSigned w64 z → EndsNumber rest → x ≡ signed_decimal z ++ rest → Front EndsNumber IsZero signed_decimal x ⊎ Front EndsNumber (IsNumber (2 ^ 63 - 1)) decimal x
+    cases : (z : ℤ) (rest : List ℕ) → FitsSigned w64 z → EndsNumber rest → x ≡ signed_decimal z ++ rest → Front Ended IsZero signed_decimal x ⊎ Front Ended (IsNumber (2 ^ 63 - 1)) decimal x
     cases (pos zero) rest good ends e = inl (record { value = pos 0; rest = rest; good = refl; ends = ends; is = e })
     cases (pos (suc n)) rest good ends e = inr (record { value = suc n; rest = rest; good = (omega arith, omega (arith, good)); ends = ends; is = e })
     cases (negsuc n) rest good ends e = absurd (no_sign (ap first e))
 
-zero_first : (x : List ℕ) → Front EndsNumber IsZero signed_decimal x → first x ≡ Some 48
+zero_first : (x : List ℕ) → Front Ended IsZero signed_decimal x → first x ≡ Some 48
 zero_first x f = ap first (f.is ∙ ap (λ y. signed_decimal y ++ f.rest) f.good ∙ ap (λ l. l ++ f.rest) zero_is)
 
-number_no_zero : (x : List ℕ) → Front EndsNumber (IsNumber (2 ^ 63 - 1)) decimal x → first x ≡ Some 48 → ⊥
+number_no_zero : (x : List ℕ) → Front Ended (IsNumber (2 ^ 63 - 1)) decimal x → first x ≡ Some 48 → ⊥
 number_no_zero x f e =
     let d = (number_first (2 ^ 63 - 1) f.value f.rest (omega arith) f.good).0 in
     omega (arith, d, ap (λ l. get_or l 0 0) f.is, first_is x 48 e)
@@ -237,47 +237,47 @@ two_firsts x a b other e f = other (ap (λ o. unwrap_or o 0) (sym e ∙ f))
 
 pub zero_integer_stops : (behind : List ℕ) (left : ℕ) → ZeroStops (48 ∷ behind) left → IntegerStops (48 ∷ behind) left
 zero_integer_stops behind left s =
-    stops_as (Spelled IsZero signed_decimal) (Front EndsNumber IsZero signed_decimal) (Spelled (FitsSigned w64) signed_decimal) (Front EndsNumber (FitsSigned w64) signed_decimal) (48 ∷ behind) left
+    stops_as (Spelled IsZero signed_decimal) (Front Ended IsZero signed_decimal) (Spelled (FitsSigned w64) signed_decimal) (Front Ended (FitsSigned w64) signed_decimal) (48 ∷ behind) left
       (λ x h. ([], record { value = h.value; good = subst (FitsSigned w64) (sym h.good) (omega arith); is = append-nil x ∙ h.is }))
       (λ x e f. elim (integer_first x f (λ m. two_firsts x 48 45 (λ i. omega (arith, i)) e m)) [ inl z ↦ z | inr n ↦ absurd (number_no_zero x n e) ])
       s
 
-pub zero_integer_takes : (behind rest : List ℕ) (z : ℤ) → Takes EndsNumber IsZero signed_decimal (48 ∷ behind) z rest → Takes EndsNumber (FitsSigned w64) signed_decimal (48 ∷ behind) z rest
+pub zero_integer_takes : (behind rest : List ℕ) (z : ℤ) → Takes Ended IsZero signed_decimal (48 ∷ behind) z rest → Takes Ended (FitsSigned w64) signed_decimal (48 ∷ behind) z rest
 zero_integer_takes behind rest z t = record { good = subst (FitsSigned w64) (sym t.good) (omega arith); ends = t.ends; is = t.is }
 
 pub plain_stops : (text : List ℕ) (left : ℕ) → (first text ≡ Some 45 → ⊥) → (first text ≡ Some 48 → ⊥) → NumberStops (2 ^ 63 - 1) text left → IntegerStops text left
 plain_stops text left no_sign no_zero s =
-    stops_as (Spelled (IsNumber (2 ^ 63 - 1)) decimal) (Front EndsNumber (IsNumber (2 ^ 63 - 1)) decimal) (Spelled (FitsSigned w64) signed_decimal) (Front EndsNumber (FitsSigned w64) signed_decimal) text left
+    stops_as (Spelled (IsNumber (2 ^ 63 - 1)) decimal) (Front Ended (IsNumber (2 ^ 63 - 1)) decimal) (Spelled (FitsSigned w64) signed_decimal) (Front Ended (FitsSigned w64) signed_decimal) text left
       (λ x h. let good = h.good in ([], record { value = pos h.value; good = omega (arith, good.1); is = append-nil x ∙ h.is }))
       (λ x e f. elim (integer_first x f (λ m. no_sign (sym e ∙ m))) [ inl z ↦ absurd (no_zero (sym e ∙ zero_first x z)) | inr n ↦ n ])
       s
 
-pub plain_takes : (text rest : List ℕ) (n : ℕ) → Takes EndsNumber (IsNumber (2 ^ 63 - 1)) decimal text n rest → Takes EndsNumber (FitsSigned w64) signed_decimal text (pos n) rest
+pub plain_takes : (text rest : List ℕ) (n : ℕ) → Takes Ended (IsNumber (2 ^ 63 - 1)) decimal text n rest → Takes Ended (FitsSigned w64) signed_decimal text (pos n) rest
 plain_takes text rest n t = let good = t.good in record { good = omega (arith, good.1); ends = t.ends; is = t.is }
 
 -- ---- columns and objects
 
-pub obj_stops : (text : List ℕ) (left : ℕ) → NumberStops 65535 text left → Stops (Spelled IsObj decimal) (Front EndsNumber IsObj decimal) text left
+pub obj_stops : (text : List ℕ) (left : ℕ) → NumberStops 65535 text left → Stops (Spelled IsObj decimal) (Front Ended IsObj decimal) text left
 obj_stops text left s =
-    stops_as (Spelled (IsNumber 65535) decimal) (Front EndsNumber (IsNumber 65535) decimal) (Spelled IsObj decimal) (Front EndsNumber IsObj decimal) text left
+    stops_as (Spelled (IsNumber 65535) decimal) (Front Ended (IsNumber 65535) decimal) (Spelled IsObj decimal) (Front Ended IsObj decimal) text left
       (λ x h. let good = h.good in ([], record { value = h.value; good = (good.0, omega (arith, good.1)); is = append-nil x ∙ h.is }))
       (λ x e f. let good = f.good in record { value = f.value; rest = f.rest; good = (good.0, omega (arith, good.1)); ends = f.ends; is = f.is })
       s
 
 -- ---- what is refused
 
-pub obj_refused : (text : List ℕ) (fault : Fault) → Refuses (Spelled (IsNumber 65535) decimal) (Front EndsNumber (IsNumber 65535) decimal) text fault → Refuses (Spelled IsObj decimal) (Front EndsNumber IsObj decimal) text fault
+pub obj_refused : (text : List ℕ) (fault : Fault) → Refuses (Spelled (IsNumber 65535) decimal) (Front Ended (IsNumber 65535) decimal) text fault → Refuses (Spelled IsObj decimal) (Front Ended IsObj decimal) text fault
 obj_refused text fault r = refuses _ _ _ _ text text fault (λ left s. obj_stops text left s) r
 
-pub minus_refused : (digits : List ℕ) (fault : Fault) → Refuses (Spelled (IsNumber (2 ^ 63)) decimal) (Front EndsNumber (IsNumber (2 ^ 63)) decimal) digits fault → Refuses (Spelled (FitsSigned w64) signed_decimal) (Front EndsNumber (FitsSigned w64) signed_decimal) (45 ∷ digits) fault
-minus_refused digits fault r = refuses _ _ _ _ digits (45 ∷ digits) fault (λ left s. minus_stops digits left s) r
+pub minus_refused : (text digits : List ℕ) (fault : Fault) → text ≡ 45 ∷ digits → Refuses (Spelled (IsNumber (2 ^ 63)) decimal) (Front Ended (IsNumber (2 ^ 63)) decimal) digits fault → Refuses (Spelled (FitsSigned w64) signed_decimal) (Front Ended (FitsSigned w64) signed_decimal) text fault
+minus_refused text digits fault is r = refuses _ _ _ _ digits text fault (λ left s. subst (λ l. IntegerStops l left) (sym is) (minus_stops digits left s)) r
 
-pub plain_refused : (text : List ℕ) (fault : Fault) → (first text ≡ Some 45 → ⊥) → (first text ≡ Some 48 → ⊥) → Refuses (Spelled (IsNumber (2 ^ 63 - 1)) decimal) (Front EndsNumber (IsNumber (2 ^ 63 - 1)) decimal) text fault → Refuses (Spelled (FitsSigned w64) signed_decimal) (Front EndsNumber (FitsSigned w64) signed_decimal) text fault
+pub plain_refused : (text : List ℕ) (fault : Fault) → (first text ≡ Some 45 → ⊥) → (first text ≡ Some 48 → ⊥) → Refuses (Spelled (IsNumber (2 ^ 63 - 1)) decimal) (Front Ended (IsNumber (2 ^ 63 - 1)) decimal) text fault → Refuses (Spelled (FitsSigned w64) signed_decimal) (Front Ended (FitsSigned w64) signed_decimal) text fault
 plain_refused text fault no_sign no_zero r = refuses _ _ _ _ text text fault (λ left s. plain_stops text left no_sign no_zero s) r
 
-abbrev pub ReadsZero : {Y : Type 0} → (Y → ℤ) → (Y → List ℕ) → List ℕ → Result Y Fault → Type 0
-ReadsZero value rest text r = Reads value rest EndsNumber IsZero signed_decimal text r
+zero_reads_of : {Y : Type 0} (value : Y → ℤ) (rest : Y → List ℕ) (behind : List ℕ) (r : Result Y Fault) → Reads value rest Ended IsZero signed_decimal (48 ∷ behind) r → Reads value rest Ended (FitsSigned w64) signed_decimal (48 ∷ behind) r
+zero_reads_of value rest behind (Ok y) t = zero_integer_takes behind (rest y) (value y) t
+zero_reads_of value rest behind (Err fault) t = refuses _ _ _ _ (48 ∷ behind) (48 ∷ behind) fault (λ left s. zero_integer_stops behind left s) t
 
-pub zero_reads : {Y : Type 0} (value : Y → ℤ) (rest : Y → List ℕ) (behind : List ℕ) (r : Result Y Fault) → ReadsZero value rest (48 ∷ behind) r → Reads value rest EndsNumber (FitsSigned w64) signed_decimal (48 ∷ behind) r
-zero_reads value rest behind (Ok y) t = zero_integer_takes behind (rest y) (value y) t
-zero_reads value rest behind (Err fault) t = refuses _ _ _ _ (48 ∷ behind) (48 ∷ behind) fault (λ left s. zero_integer_stops behind left s) t
+pub zero_reads : {Y : Type 0} (value : Y → ℤ) (rest : Y → List ℕ) (text behind : List ℕ) (r : Result Y Fault) → text ≡ 48 ∷ behind → Reads value rest Ended IsZero signed_decimal (48 ∷ behind) r → Reads value rest Ended (FitsSigned w64) signed_decimal text r
+zero_reads value rest text behind r is t = subst (λ l. Reads value rest Ended (FitsSigned w64) signed_decimal l r) (sym is) (zero_reads_of value rest behind r t)

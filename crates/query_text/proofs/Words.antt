@@ -2,14 +2,11 @@
 use Rattle.std.proofs.Common.{◌≡◌, ℕ, ◌<◌, ◌≤◌, Bool, true, false, cond, eqb, List, [], ◌∷◌, ◌++◌, length, get_or, drop, min, Some, None, Result, Ok, Err, ◌⊎◌, inl, inr, refl, sym, ap, ap₂, ◌∙◌, subst, arith, append_assoc}
 use Rattle.std.proofs.lemmas.Bool.{eqb-true, eqb-false}
 use Rattle.std.proofs.lemmas.List.{append-nil, length-append, nil_from_length, drop_more}
-use Rattle.query_text.specs.Stopping.{first, Stops}
+use Rattle.query_text.specs.Stopping.{first, Stops, Begins}
 use Rattle.query_text.specs.Words.{strip, or_else, found, IsWord, Means}
 use Rattle.query_text.proofs.Stopping.{heads, stops_in, stops_as, stops_either}
 
 -- ---- one word
-
-abbrev pub Begins : List ℕ → List ℕ → Type 0
-Begins word x = (k : List ℕ) × (x ≡ word ++ k)
 
 abbrev left_as : {T : Type 0} → ℕ → Result T ℕ
 left_as n = Err n

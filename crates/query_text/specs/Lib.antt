@@ -1,3 +1,4 @@
 pub mod Stopping
 pub mod Words
 pub mod Parts
+pub mod Literals

@@ -3,13 +3,21 @@ use Rattle.std.specs.Prelude.{◌≡◌, ◌≢◌, ℕ, ℤ, pos, ◌<◌, ◌�
 use Rattle.std.specs.List.{AllByRecursion}
 use Rattle.std.specs.Fmt.{decimal}
 use Rattle.adg_base.specs.declared.value.Value.{Value}
-use Rattle.adg_base.specs.declared.value.Value.TheVariants.{Null}
+use Rattle.adg_base.specs.declared.value.Value.TheVariants.{Null, Int, Text}
 use Rattle.adg_base.specs.declared.command.Select.{Select}
 use Rattle.adg_base.specs.declared.command.Condition.{Condition}
 use Rattle.adg_base.specs.declared.command.Op.{Op}
 use Rattle.adg_base.specs.declared.command.What.{What}
 use Rattle.adg_base.specs.declared.command.What.TheVariants.{All, Aggregates}
 use Rattle.adg_base.specs.declared.command.Aggregate.{Aggregate}
+use Rattle.query_text.specs.declared.tail.Next.{Next}
+use Rattle.query_text.specs.declared.tail.Next.TheVariants.{Test, Group}
+use Rattle.query_text.specs.declared.aggregate.Function.{Function}
+use Rattle.query_text.specs.declared.aggregate.Function.TheVariants.{Count, Sum, Min, Max}
+use Rattle.query_text.specs.declared.aggregate.Behind.{Behind}
+use Rattle.query_text.specs.declared.aggregate.Behind.TheVariants as behind
+use Rattle.query_text.specs.declared.read.Verb.{Verb}
+use Rattle.query_text.specs.declared.read.Verb.TheVariants as verb
 use Rattle.adg_model.specs.Spelling.{IsObj, IsValue}
 use Rattle.adg_model.specs.Command.{literal_bytes, op_bytes, aggregates_bytes, where_bytes, group_bytes, what_bytes, IsAggregate, IsCondition, IsGroup, IsSelect}
 
@@ -25,6 +33,9 @@ BeginsElse Is (c ∷ text) = Is c → ⊥
 abbrev pub EndsNumber : List ℕ → Type 0
 EndsNumber rest = BeginsElse IsDigit rest
 
+abbrev pub Ended : {X : Type 0} → X → List ℕ → Type 0
+Ended x rest = EndsNumber rest
+
 -- a number from 1 to a limit
 abbrev pub IsNumber : ℕ → ℕ → Type 0
 IsNumber limit n = (1 ≤ n) × (n ≤ limit)
@@ -36,6 +47,19 @@ IsZero z = z ≡ pos 0
 abbrev pub IsLiteral : Value → Type 0
 IsLiteral v = IsValue v × (v ≢ Null)
 
+-- what may follow a literal: the digits of an integer have to end
+abbrev pub EndsLiteral : Value → List ℕ → Type 0
+EndsLiteral Null rest = Unit {0}
+EndsLiteral (Int n) rest = EndsNumber rest
+EndsLiteral (Text text) rest = Unit {0}
+
+-- a text behind its first quotation mark
+abbrev pub closed : List ℕ → List ℕ
+closed text = text ++ codes "'"
+
+abbrev pub IsOp : Op → Type 0
+IsOp op = Unit {0}
+
 -- between blanks
 abbrev pub spaced_op : Op → List ℕ
 spaced_op op = codes " " ++ op_bytes op ++ codes " "
@@ -43,6 +67,9 @@ spaced_op op = codes " " ++ op_bytes op ++ codes " "
 -- a test, from the number of its column on
 abbrev pub test_bytes : Condition → List ℕ
 test_bytes c = decimal c.column ++ (spaced_op c.op ++ literal_bytes c.literal)
+
+abbrev pub EndsTest : Condition → List ℕ → Type 0
+EndsTest c rest = EndsLiteral c.literal rest
 
 -- tests, the first behind a word, the others behind AND
 abbrev pub tests_bytes : List ℕ → List Condition → List ℕ
@@ -88,3 +115,44 @@ AsksRows s = IsSelect s × (s.what ≡ All)
 
 abbrev pub AsksSums : Select → Type 0
 AsksSums s = IsSelect s × (s.what ≢ All)
+
+-- how the tests and the group behind a table begin, where the next test begins with this word
+abbrev pub next_bytes : List ℕ → Next → List ℕ
+next_bytes word Test = word
+next_bytes word Group = codes " GROUP BY c"
+
+abbrev pub IsNext : Bool → Next → Type 0
+IsNext grouped Test = Unit {0}
+IsNext grouped Group = grouped ≡ true
+
+-- how an aggregate begins, and a column up to a bracket
+abbrev pub function_bytes : Function → List ℕ
+function_bytes Count = codes "COUNT"
+function_bytes Sum = codes "SUM(c"
+function_bytes Min = codes "MIN(c"
+function_bytes Max = codes "MAX(c"
+
+abbrev pub IsFunction : Function → Type 0
+IsFunction f = Unit {0}
+
+abbrev pub argument_bytes : ℕ → List ℕ
+argument_bytes column = decimal column ++ codes ")"
+
+-- what stands behind an aggregate
+abbrev pub behind_bytes : Behind → List ℕ
+behind_bytes behind.Aggregate = codes ", "
+behind_bytes behind.Table = codes " FROM t"
+
+abbrev pub IsBehind : Behind → Type 0
+IsBehind b = Unit {0}
+
+-- how a command begins
+abbrev pub verb_bytes : Verb → List ℕ
+verb_bytes verb.Select = codes "SELECT "
+verb_bytes verb.Populate = codes "POPULATE t"
+verb_bytes verb.Sync = codes "SYNC"
+verb_bytes verb.ShowScn = codes "SHOW SCN"
+verb_bytes verb.Abort = codes "ABORT"
+
+abbrev pub IsVerb : Verb → Type 0
+IsVerb v = Unit {0}

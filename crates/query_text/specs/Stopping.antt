@@ -31,22 +31,22 @@ pub record Spelled {X : Type 0} (Good : X → Type 0) (spell : X → List ℕ) (
   pub good : Good value
   pub is : text ≡ spell value
 
--- such a spelling stands in front, and what follows it may follow
-pub record Front {X : Type 0} (Ends : List ℕ → Type 0) (Good : X → Type 0) (spell : X → List ℕ) (text : List ℕ) : Type 0 where
+-- such a spelling stands in front, and what follows may follow it
+pub record Front {X : Type 0} (Ends : X → List ℕ → Type 0) (Good : X → Type 0) (spell : X → List ℕ) (text : List ℕ) : Type 0 where
   pub value : X
   pub rest : List ℕ
   pub good : Good value
-  pub ends : Ends rest
+  pub ends : Ends value rest
   pub is : text ≡ spell value ++ rest
 
 -- this is spelled in front, and these bytes follow
-pub record Takes {X : Type 0} (Ends : List ℕ → Type 0) (Good : X → Type 0) (spell : X → List ℕ) (text : List ℕ) (value : X) (rest : List ℕ) : Type 0 where
+pub record Takes {X : Type 0} (Ends : X → List ℕ → Type 0) (Good : X → Type 0) (spell : X → List ℕ) (text : List ℕ) (value : X) (rest : List ℕ) : Type 0 where
   pub good : Good value
-  pub ends : Ends rest
+  pub ends : Ends value rest
   pub is : text ≡ spell value ++ rest
 
 -- What a function took off the front of a text, seen by views of the value and of the bytes behind it.
-abbrev pub Reads : {X Y : Type 0} → (Y → X) → (Y → List ℕ) → (List ℕ → Type 0) → (X → Type 0) → (X → List ℕ) → List ℕ → Result Y Fault → Type 0
+abbrev pub Reads : {X Y : Type 0} → (Y → X) → (Y → List ℕ) → (X → List ℕ → Type 0) → (X → Type 0) → (X → List ℕ) → List ℕ → Result Y Fault → Type 0
 Reads value rest Ends Good spell text (Ok y) = Takes Ends Good spell text (value y) (rest y)
 Reads value rest Ends Good spell text (Err fault) = Refuses (Spelled Good spell) (Front Ends Good spell) text fault
 
@@ -56,5 +56,14 @@ ReadsAll value Good spell text (Ok y) = Good (value y) × (text ≡ spell (value
 ReadsAll value Good spell text (Err fault) = Refuses (Spelled Good spell) (Spelled Good spell) text fault
 
 -- anything may follow
-abbrev pub Anything : List ℕ → Type 0
-Anything rest = Unit {0}
+abbrev pub Anything : {X : Type 0} → X → List ℕ → Type 0
+Anything x rest = Unit {0}
+
+-- a text begins with a word
+abbrev pub Begins : List ℕ → List ℕ → Type 0
+Begins word text = (rest : List ℕ) × (text ≡ word ++ rest)
+
+-- What a function found behind one word, seen by a view of what is behind it.
+abbrev pub ReadsWord : {Y : Type 0} → (Y → List ℕ) → List ℕ → List ℕ → Result Y Fault → Type 0
+ReadsWord rest word text (Ok y) = text ≡ word ++ rest y
+ReadsWord rest word text (Err fault) = Refuses (λ x. x ≡ word) (Begins word) text fault

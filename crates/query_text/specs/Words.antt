@@ -1,5 +1,7 @@
 -- Words at the front of a text.
 use Rattle.std.specs.Prelude.{◌≡◌, ℕ, ◌==◌, if◌then◌else◌, List, [], ◌∷◌, ◌++◌, length, min, Result, Ok, Err, ◌⊎◌}
+use Rattle.query_text.specs.declared.fault.Fault.{Fault}
+use Rattle.query_text.specs.declared.fault.Fault.TheVariants.{Stopped}
 
 -- What is behind a word; where a text does not begin with it, how many bytes of the text are left
 -- where the two part.
@@ -28,3 +30,13 @@ IsWord now (e ∷ words) text = (text ≡ now e.0) ⊎ IsWord now words text
 abbrev pub Means : {W T : Type 0} → (W → List ℕ) → List (W × T) → T → List ℕ → List ℕ → Type 0
 Means now [] meaning text rest = ⊥
 Means now (e ∷ words) meaning text rest = ((meaning ≡ e.1) × (text ≡ now e.0 ++ rest)) ⊎ Means now words meaning text rest
+
+-- one of the words has this meaning
+abbrev pub IsMeant : {W T : Type 0} → List (W × T) → T → Type 0
+IsMeant [] meaning = ⊥
+IsMeant (e ∷ words) meaning = (e.1 ≡ meaning) ⊎ IsMeant words meaning
+
+-- what a call found, seen by views of the meaning and of what is behind the word
+abbrev pub Finds : {W T Y : Type 0} → (W → List ℕ) → List (W × T) → (Y → T) → (Y → List ℕ) → List ℕ → Result Y Fault → Type 0
+Finds now words meaning rest text (Ok y) = found now words text (length text) ≡ Ok (meaning y, rest y)
+Finds now words meaning rest text (Err fault) = (left : ℕ) × (fault ≡ Stopped left) × (found now words text (length text) ≡ Err left)

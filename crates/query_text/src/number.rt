@@ -6,9 +6,10 @@ ghost use Rattle.std.specs.Fmt.{decimal, signed_decimal};
 ghost use Rattle.adg_model.specs.Command.{IsColumn};
 ghost use Rattle.adg_model.specs.Spelling.{IsObj};
 ghost use Rattle.query_text.specs.Stopping.{Reads};
-ghost use Rattle.query_text.specs.Parts.{EndsNumber, IsNumber, IsZero};
+ghost use Rattle.query_text.specs.Parts.{EndsNumber, Ended, IsNumber, IsZero};
 
 use crate::fault::Fault;
+use crate::word::behind_byte;
 use adg_base::number::Obj;
 
 /// The value of the digit in front, and the bytes behind it.
@@ -42,7 +43,7 @@ fn with_digit(number: u64, digit: u8, limit: u64) -> Option<u64>
 /// The number from 1 to a limit at the front, and the bytes behind it.
 pub fn number_of(bytes: &[u8], limit: u64) -> Result<(u64, &[u8]), Fault>
     requires { 9 ≤ limit }
-    ensures { Reads (λ x. x.0) (λ x. x.1.now) EndsNumber (IsNumber limit) decimal bytes.now result }
+    ensures { Reads (λ x. x.0) (λ x. x.1.now) Ended (IsNumber limit) decimal bytes.now result }
 {
     let mut number = 0;
     let mut rest = bytes;
@@ -62,7 +63,7 @@ pub fn number_of(bytes: &[u8], limit: u64) -> Result<(u64, &[u8]), Fault>
 
 /// The column at the front, 1 to 16, and the bytes behind it.
 pub fn column_of(bytes: &[u8]) -> Result<(u8, &[u8]), Fault>
-    ensures { Reads (λ x. x.0) (λ x. x.1.now) EndsNumber IsColumn decimal bytes.now result }
+    ensures { Reads (λ x. x.0) (λ x. x.1.now) Ended IsColumn decimal bytes.now result }
 {
     let (column, rest) = number_of(bytes, 16)?;
     Ok((column as u8, rest))
@@ -70,7 +71,7 @@ pub fn column_of(bytes: &[u8]) -> Result<(u8, &[u8]), Fault>
 
 /// The object at the front, 1 to 65535, and the bytes behind it.
 pub fn object_of(bytes: &[u8]) -> Result<(Obj, &[u8]), Fault>
-    ensures { Reads (λ x. x.0) (λ x. x.1.now) EndsNumber IsObj decimal bytes.now result }
+    ensures { Reads (λ x. x.0) (λ x. x.1.now) Ended IsObj decimal bytes.now result }
 {
     let (number, rest) = number_of(bytes, 65535)?;
     match Obj::new(number as u16) {
@@ -90,7 +91,7 @@ fn negative(size: u64) -> i64
 
 /// Zero, behind which no digit stands.
 fn zero_of(behind: &[u8]) -> Result<(i64, &[u8]), Fault>
-    ensures { Reads (λ x. x.0) (λ x. x.1.now) EndsNumber IsZero signed_decimal (48 ∷ behind.now) result }
+    ensures { Reads (λ x. x.0) (λ x. x.1.now) Ended IsZero signed_decimal (48 ∷ behind.now) result }
 {
     match digit_of(behind) {
         Some(_) => Err(Fault::Stopped { left: behind.len() }),
@@ -100,17 +101,15 @@ fn zero_of(behind: &[u8]) -> Result<(i64, &[u8]), Fault>
 
 /// The integer at the front, and the bytes behind it.
 pub fn integer_of(bytes: &[u8]) -> Result<(i64, &[u8]), Fault>
-    ensures { Reads (λ x. x.0) (λ x. x.1.now) EndsNumber (FitsSigned w64) signed_decimal bytes.now result }
+    ensures { Reads (λ x. x.0) (λ x. x.1.now) Ended (FitsSigned w64) signed_decimal bytes.now result }
 {
-    match bytes {
-        [b'-', digits @ ..] => {
-            let (size, rest) = number_of(digits, 1 << 63)?;
-            Ok((negative(size), rest))
-        }
-        [b'0', behind @ ..] => zero_of(behind),
-        _ => {
-            let (size, rest) = number_of(bytes, (1 << 63) - 1)?;
-            Ok((size as i64, rest))
-        }
+    if let Some(digits) = behind_byte(b'-', bytes) {
+        let (size, rest) = number_of(digits, 1 << 63)?;
+        return Ok((negative(size), rest));
     }
+    if let Some(behind) = behind_byte(b'0', bytes) {
+        return zero_of(behind);
+    }
+    let (size, rest) = number_of(bytes, (1 << 63) - 1)?;
+    Ok((size as i64, rest))
 }

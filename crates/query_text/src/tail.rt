@@ -1,5 +1,11 @@
 //! What stands behind the table of a query: its tests, and the column that it groups by.
 
+ghost use Rattle.std.specs.Prelude.{codes};
+ghost use Rattle.std.specs.Fmt.{decimal};
+ghost use Rattle.adg_model.specs.Command.{IsColumn};
+ghost use Rattle.query_text.specs.Stopping.{Reads, ReadsAll, Anything};
+ghost use Rattle.query_text.specs.Parts.{IsNext, next_bytes, IsTail, tail_bytes};
+
 use crate::condition::condition_of;
 use crate::fault::Fault;
 use crate::number::column_of;
@@ -9,12 +15,15 @@ use std::alloc::Global;
 
 /// What comes next.
 #[derive(Clone, Copy, Debug, PartialEq, Eq)]
-enum Next {
+pub enum Next {
     Test,
     Group,
 }
 
-fn next_of<'a>(bytes: &'a [u8], test: &[u8], grouped: bool) -> Result<(Next, &'a [u8]), Fault> {
+/// What comes next, where a test begins with a word, and the bytes behind it.
+fn next_of<'a>(bytes: &'a [u8], test: &[u8], grouped: bool) -> Result<(Next, &'a [u8]), Fault>
+    ensures { Reads (λ x. x.0) (λ x. x.1.now) Anything (IsNext grouped) (next_bytes test.now) bytes.now result }
+{
     if grouped {
         word_of(&[(test, Next::Test), (b" GROUP BY c".as_slice(), Next::Group)], bytes)
     } else {
@@ -23,7 +32,9 @@ fn next_of<'a>(bytes: &'a [u8], test: &[u8], grouped: bool) -> Result<(Next, &'a
 }
 
 /// The column that the bytes spell, all of them.
-fn group_of(bytes: &[u8]) -> Result<u8, Fault> {
+fn group_of(bytes: &[u8]) -> Result<u8, Fault>
+    ensures { ReadsAll (λ x. x) IsColumn decimal bytes.now result }
+{
     let (column, rest) = column_of(bytes)?;
     if rest.is_empty() {
         Ok(column)
@@ -33,7 +44,13 @@ fn group_of(bytes: &[u8]) -> Result<u8, Fault> {
 }
 
 /// The tests and the group that the bytes spell, all of them. Only a query of aggregates is grouped.
-pub fn tail_of(alloc: Global, bytes: &[u8], grouped: bool) -> Result<(Vec<Condition>, Option<u8>), Fault> {
+pub fn tail_of(
+    alloc: Global,
+    bytes: &[u8],
+    grouped: bool,
+) -> Result<(Vec<Condition>, Option<u8>), Fault>
+    ensures { ReadsAll (λ x. (x.0.items, x.1)) (IsTail grouped) (tail_bytes (codes " WHERE c")) bytes.now result }
+{
     let mut conditions = Vec::new(alloc);
     let mut test = b" WHERE c".as_slice();
     let mut rest = bytes;
