@@ -22,7 +22,7 @@ use Rattle.adg_base.specs.declared.command.Aggregate.{Aggregate}
 use Rattle.adg_base.specs.declared.command.Aggregate.TheVariants.{Count, Sum, Min, Max}
 use Rattle.adg_model.specs.Spelling.{IsValue}
 use Rattle.adg_model.specs.Command.{table_bytes, literal_bytes, op_bytes, aggregate_bytes, aggregates_bytes, condition_bytes, conditions_bytes, where_bytes, group_bytes, what_bytes, select_bytes, IsColumn, IsAggregate, IsCondition, IsGroup, IsWhat, IsSelect}
-use Rattle.query_text.specs.Parts.{IsDigit, BeginsElse, EndsNumber}
+use Rattle.query_text.specs.Parts.{IsDigit, BeginsElse, EndsNumber, IsLiteral, EndsLiteral}
 use Rattle.query_text.proofs.Stopping.{heads}
 
 -- all bytes of a sort at the front of a text
@@ -99,14 +99,14 @@ quoted_apart s t x y h k e =
 pub quoted_laid : (s x : List ℕ) → literal_bytes (Text s) ++ x ≡ 39 ∷ (s ++ 39 ∷ x)
 quoted_laid s x = ap (λ l. 39 ∷ l) (append_assoc s (39 ∷ []) x)
 
-pub literal_apart : (a b : Value) (x y : List ℕ) → IsValue a → IsValue b → a ≢ Null → b ≢ Null → EndsNumber x → EndsNumber y → literal_bytes a ++ x ≡ literal_bytes b ++ y → (a ≡ b) × (x ≡ y)
-literal_apart Null b x y h k na nb ex ey e = absurd (na refl)
-literal_apart a Null x y h k na nb ex ey e = absurd (nb refl)
-literal_apart (Int a) (Int b) x y h k na nb ex ey e = let p = signed_apart a b x y h k ex ey e in (ap Int p.0, p.1)
-literal_apart (Int a) (Text t) x y h k na nb ex ey e = absurd (signed_no_quote a x h (ap (λ l. get_or l 0 0) e))
-literal_apart (Text s) (Int b) x y h k na nb ex ey e = absurd (signed_no_quote b y k (ap (λ l. get_or l 0 0) (sym e)))
-literal_apart (Text s) (Text t) x y h k na nb ex ey e =
-    let p = quoted_apart s t x y h k (ap (drop 1) (sym (quoted_laid s x) ∙ e ∙ quoted_laid t y)) in
+pub literal_apart : (a b : Value) (x y : List ℕ) → IsLiteral a → IsLiteral b → EndsLiteral a x → EndsLiteral b y → literal_bytes a ++ x ≡ literal_bytes b ++ y → (a ≡ b) × (x ≡ y)
+literal_apart Null b x y h k ex ey e = absurd (h.1 refl)
+literal_apart a Null x y h k ex ey e = absurd (k.1 refl)
+literal_apart (Int a) (Int b) x y h k ex ey e = let p = signed_apart a b x y h.0 k.0 ex ey e in (ap Int p.0, p.1)
+literal_apart (Int a) (Text t) x y h k ex ey e = absurd (signed_no_quote a x h.0 (ap (λ l. get_or l 0 0) e))
+literal_apart (Text s) (Int b) x y h k ex ey e = absurd (signed_no_quote b y k.0 (ap (λ l. get_or l 0 0) (sym e)))
+literal_apart (Text s) (Text t) x y h k ex ey e =
+    let p = quoted_apart s t x y h.0 k.0 (ap (drop 1) (sym (quoted_laid s x) ∙ e ∙ quoted_laid t y)) in
     (ap Text p.0, p.1)
 
 pub op_apart : (a b : Op) (x y : List ℕ) → op_bytes a ++ 32 ∷ x ≡ op_bytes b ++ 32 ∷ y → (a ≡ b) × (x ≡ y)
@@ -170,72 +170,6 @@ aggregates_apart (c ∷ a ∷ more) (d ∷ b ∷ bs) x y m n h k e =
     let p = aggregate_apart c d s t h.0 k.0 (sym (aggregates_laid c a more (32 ∷ x)) ∙ e ∙ aggregates_laid d b bs (32 ∷ y)) in
     let later = aggregates_apart (a ∷ more) (b ∷ bs) x y (omega arith) (omega arith) h.1 k.1 (ap (drop 2) p.1) in
     (ap₂ (λ f fs. f ∷ fs) p.0 later.0, later.1)
-
--- a condition, and what follows it
-pub condition_laid : (c : Condition) (x : List ℕ) → condition_bytes c ++ x ≡ 99 ∷ (decimal c.column ++ 32 ∷ (op_bytes c.op ++ 32 ∷ (literal_bytes c.literal ++ x)))
-condition_laid c x = ap (λ l. 99 ∷ l) (regroup_5 (decimal c.column) (codes " ") (op_bytes c.op) (codes " ") (literal_bytes c.literal) x)
-
-pub condition_apart : (c d : Condition) (x y : List ℕ) → IsCondition c → IsCondition d → EndsNumber x → EndsNumber y → condition_bytes c ++ x ≡ condition_bytes d ++ y → (c ≡ d) × (x ≡ y)
-condition_apart c d x y h k ex ey e =
-    let f = ap (drop 1) (sym (condition_laid c x) ∙ e ∙ condition_laid d y) in
-    let p = column_apart c.column d.column (32 ∷ (op_bytes c.op ++ 32 ∷ (literal_bytes c.literal ++ x))) (32 ∷ (op_bytes d.op ++ 32 ∷ (literal_bytes d.literal ++ y))) h.0 k.0 (λ i. omega (arith, i)) (λ i. omega (arith, i)) f in
-    let q = op_apart c.op d.op (literal_bytes c.literal ++ x) (literal_bytes d.literal ++ y) (ap (drop 1) p.1) in
-    let r = literal_apart c.literal d.literal x y h.1 k.1 h.2 k.2 ex ey q.1 in
-    (ap (λ n. record c { column = n }) p.0 ∙ ap (λ n. record d { op = n; literal = c.literal }) q.0 ∙ ap (λ n. record d { literal = n }) r.0, r.1)
-
--- behind the conditions
-pub group_ends : (g : Option ℕ) → EndsNumber (group_bytes g)
-group_ends None = tt
-group_ends (Some c) = λ i. omega (arith, i)
-
-pub group_no_more : (g : Option ℕ) (x : List ℕ) → group_bytes g ≡ codes " AND " ++ x → ⊥
-group_no_more None x e = absurd cc
-group_no_more (Some c) x e = omega (arith, ap (λ l. get_or l 1 0) e)
-
-pub group_same : (g h : Option ℕ) → IsGroup g → IsGroup h → group_bytes g ≡ group_bytes h → g ≡ h
-group_same None None m n e = refl
-group_same None (Some d) m n e = absurd cc
-group_same (Some c) None m n e = absurd cc
-group_same (Some c) (Some d) m n e = ap Some (decimal_injective c d (omega (arith, m.1)) (omega (arith, n.1)) (ap (drop 11) e))
-
-pub conditions_laid : (c d : Condition) (more : List Condition) (x : List ℕ) → conditions_bytes (c ∷ d ∷ more) ++ x ≡ condition_bytes c ++ (codes " AND " ++ (conditions_bytes (d ∷ more) ++ x))
-conditions_laid c d more x = regroup_3 (condition_bytes c) (codes " AND ") (conditions_bytes (d ∷ more)) x
-
-pub conditions_apart : (cs ds : List Condition) (g h : Option ℕ) → 1 ≤ length cs → 1 ≤ length ds → AllByRecursion IsCondition cs → AllByRecursion IsCondition ds → conditions_bytes cs ++ group_bytes g ≡ conditions_bytes ds ++ group_bytes h → (cs ≡ ds) × (group_bytes g ≡ group_bytes h)
-conditions_apart [] ds g h m n hc hd e = absurd (omega (arith, m))
-conditions_apart cs [] g h m n hc hd e = absurd (omega (arith, n))
-conditions_apart (c ∷ []) (d ∷ []) g h m n hc hd e =
-    let p = condition_apart c d (group_bytes g) (group_bytes h) hc.0 hd.0 (group_ends g) (group_ends h) e in
-    (ap (λ f. f ∷ []) p.0, p.1)
-conditions_apart (c ∷ []) (d ∷ b ∷ bs) g h m n hc hd e =
-    let rest = conditions_bytes (b ∷ bs) ++ group_bytes h in
-    let p = condition_apart c d (group_bytes g) (codes " AND " ++ rest) hc.0 hd.0 (group_ends g) (λ i. omega (arith, i)) (e ∙ conditions_laid d b bs (group_bytes h)) in
-    absurd (group_no_more g rest p.1)
-conditions_apart (c ∷ a ∷ more) (d ∷ []) g h m n hc hd e =
-    let rest = conditions_bytes (a ∷ more) ++ group_bytes g in
-    let p = condition_apart c d (codes " AND " ++ rest) (group_bytes h) hc.0 hd.0 (λ i. omega (arith, i)) (group_ends h) (sym (conditions_laid c a more (group_bytes g)) ∙ e) in
-    absurd (group_no_more h rest (sym p.1))
-conditions_apart (c ∷ a ∷ more) (d ∷ b ∷ bs) g h m n hc hd e =
-    let s = codes " AND " ++ (conditions_bytes (a ∷ more) ++ group_bytes g) in
-    let t = codes " AND " ++ (conditions_bytes (b ∷ bs) ++ group_bytes h) in
-    let p = condition_apart c d s t hc.0 hd.0 (λ i. omega (arith, i)) (λ i. omega (arith, i)) (sym (conditions_laid c a more (group_bytes g)) ∙ e ∙ conditions_laid d b bs (group_bytes h)) in
-    let later = conditions_apart (a ∷ more) (b ∷ bs) g h (omega arith) (omega arith) hc.1 hd.1 (ap (drop 5) p.1) in
-    (ap₂ (λ f fs. f ∷ fs) p.0 later.0, later.1)
-
--- the conditions and the group behind an object
-pub group_no_where : (g : Option ℕ) (x : List ℕ) → group_bytes g ≡ codes " WHERE " ++ x → ⊥
-group_no_where None x e = absurd cc
-group_no_where (Some c) x e = omega (arith, ap (λ l. get_or l 1 0) e)
-
-pub where_ends : (cs : List Condition) (g : Option ℕ) → EndsNumber (where_bytes cs ++ group_bytes g)
-where_ends [] g = group_ends g
-where_ends (c ∷ cs) g = λ i. omega (arith, i)
-
-pub where_apart : (cs ds : List Condition) (g h : Option ℕ) → AllByRecursion IsCondition cs → AllByRecursion IsCondition ds → where_bytes cs ++ group_bytes g ≡ where_bytes ds ++ group_bytes h → (cs ≡ ds) × (group_bytes g ≡ group_bytes h)
-where_apart [] [] g h hc hd e = (refl, e)
-where_apart [] (d ∷ ds) g h hc hd e = absurd (group_no_where g (conditions_bytes (d ∷ ds) ++ group_bytes h) e)
-where_apart (c ∷ cs) [] g h hc hd e = absurd (group_no_where h (conditions_bytes (c ∷ cs) ++ group_bytes g) (sym e))
-where_apart (c ∷ cs) (d ∷ ds) g h hc hd e = conditions_apart (c ∷ cs) (d ∷ ds) g h (omega arith) (omega arith) hc hd (ap (drop 7) e)
 
 -- what a SELECT asks for
 pub aggregate_first : (a : Aggregate) (x : List ℕ) → get_or (aggregate_bytes a ++ x) 0 0 ≡ 42 → ⊥

@@ -5,3 +5,5 @@ pub mod Tables
 pub mod Numbers
 pub mod Literals
 pub mod Conditions
+pub mod Tails
+pub mod Aggregates

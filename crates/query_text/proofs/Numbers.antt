@@ -12,9 +12,10 @@ use Rattle.std.proofs.lemmas.List.{append-nil, length-append, get_or_append_left
 use Rattle.query_text.specs.Stopping.{first, Stops, Refuses, Spelled, Front, Takes, Reads}
 use Rattle.query_text.specs.declared.fault.Fault.{Fault}
 use Rattle.adg_model.specs.Spelling.{IsObj}
+use Rattle.adg_model.specs.Command.{IsColumn}
 use Rattle.query_text.specs.Parts.{IsDigit, EndsNumber, Ended, IsNumber, IsZero}
 use Rattle.query_text.proofs.Stopping.{heads, stops_in, stops_as, refuses}
-use Rattle.query_text.proofs.Apart.{decimal_digits, decimal_first}
+use Rattle.query_text.proofs.Apart.{decimal_digits, decimal_first, decimal_apart}
 
 -- ---- the number of digits
 
@@ -281,3 +282,37 @@ zero_reads_of value rest behind (Err fault) t = refuses _ _ _ _ (48 ∷ behind) 
 
 pub zero_reads : {Y : Type 0} (value : Y → ℤ) (rest : Y → List ℕ) (text behind : List ℕ) (r : Result Y Fault) → text ≡ 48 ∷ behind → Reads value rest Ended IsZero signed_decimal (48 ∷ behind) r → Reads value rest Ended (FitsSigned w64) signed_decimal text r
 zero_reads value rest text behind r is t = subst (λ l. Reads value rest Ended (FitsSigned w64) signed_decimal l r) (sym is) (zero_reads_of value rest behind r t)
+
+-- ---- numbers that end a text
+
+pub end_stops : (Good : ℕ → Type 0) → ((n : ℕ) → Good n → n < 2 ^ 64) → (all rest : List ℕ) (n : ℕ) → Takes Ended Good decimal all n rest → 1 ≤ length rest → Stops (Spelled Good decimal) (Spelled Good decimal) all (length rest)
+end_stops Good small all rest n t some =
+    record {
+      before = decimal n;
+      behind = rest;
+      parts = t.is;
+      len = refl;
+      more = [];
+      begins = record { value = n; good = t.good; is = append-nil (decimal n) };
+      none = λ h.
+        let p = decimal_apart n h.value rest [] (small n t.good) (small h.value h.good) t.ends tt (sym t.is ∙ h.is ∙ sym (append-nil (decimal h.value))) in
+        omega (arith, some, ap length p.1);
+      longest = λ c cs later is h.
+        let p = decimal_apart n h.value (c ∷ later) [] (small n t.good) (small h.value h.good) (subst EndsNumber is t.ends) tt (h.is ∙ sym (append-nil (decimal h.value))) in
+        omega (arith, ap length p.1);
+    }
+
+pub alone_refused : (Good : ℕ → Type 0) (all : List ℕ) (fault : Fault) → Refuses (Spelled Good decimal) (Front Ended Good decimal) all fault → Refuses (Spelled Good decimal) (Spelled Good decimal) all fault
+alone_refused Good all fault r =
+    refuses _ _ _ _ all all fault
+      (λ left s. stops_as (Spelled Good decimal) (Front Ended Good decimal) (Spelled Good decimal) (Spelled Good decimal) all left
+        (λ x h. ([], record { value = h.value; good = h.good; is = append-nil x ∙ h.is }))
+        (λ x e h. record { value = h.value; rest = []; good = h.good; ends = tt; is = h.is ∙ sym (append-nil (decimal h.value)) })
+        s)
+      r
+
+pub column_small : (n : ℕ) → IsColumn n → n < 2 ^ 64
+column_small n h = omega (arith, h.1)
+
+pub obj_small : (n : ℕ) → IsObj n → n < 2 ^ 64
+obj_small n h = omega (arith, h.1)

@@ -35,11 +35,10 @@ fn next_of<'a>(bytes: &'a [u8], test: &[u8], grouped: bool) -> Result<(Next, &'a
 fn group_of(bytes: &[u8]) -> Result<u8, Fault>
     ensures { ReadsAll (λ x. x) IsColumn decimal bytes.now result }
 {
-    let (column, rest) = column_of(bytes)?;
-    if rest.is_empty() {
-        Ok(column)
-    } else {
-        Err(Fault::Stopped { left: rest.len() })
+    match column_of(bytes) {
+        Ok((column, [])) => Ok(column),
+        Ok((_, rest)) => Err(Fault::Stopped { left: rest.len() }),
+        Err(fault) => Err(fault),
     }
 }
 
