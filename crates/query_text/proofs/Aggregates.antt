@@ -173,7 +173,7 @@ record BeginsAsked (x : List ℕ) : Type 0 where
 begins_asked : (x : List ℕ) → Front Anything AreAsked asked_bytes x → BeginsAsked x
 begins_asked x f = asked_cases f.value f.rest f.good f.is
   where
-    asked_cases : (as : List Aggregate) (k : List ℕ) → AreAsked as → x ≡ asked_bytes as ++ k → BeginsAsked x
+    asked_cases : (listed : List Aggregate) (k : List ℕ) → AreAsked listed → x ≡ asked_bytes listed ++ k → BeginsAsked x
     asked_cases [] k good e = absurd (omega (arith, good.0))
     asked_cases (a ∷ []) k good e = record { one = a; good = good.1.0; rest = codes " FROM t" ++ k; is = e ∙ one_asked a k; follows = inl (k, refl) }
     asked_cases (a ∷ b ∷ more) k good e =
@@ -219,7 +219,7 @@ later_asked_stops a text left good s =
       (λ x e f. of_later x (begins_asked (aggregate_bytes a ++ (codes ", " ++ x)) (subst (Front Anything AreAsked asked_bytes) (append_assoc (aggregate_bytes a) (codes ", ") x) f)))
       s
   where
-    goes_on : (x : List ℕ) (as : List Aggregate) → AreAsked as → x ++ [] ≡ asked_bytes as → Spelled AreAsked asked_bytes ((aggregate_bytes a ++ codes ", ") ++ (x ++ []))
+    goes_on : (x : List ℕ) (listed : List Aggregate) → AreAsked listed → x ++ [] ≡ asked_bytes listed → Spelled AreAsked asked_bytes ((aggregate_bytes a ++ codes ", ") ++ (x ++ []))
     goes_on x [] h e = absurd (omega (arith, h.0))
     goes_on x (b ∷ more) h e =
         record {
@@ -239,29 +239,29 @@ later_asked_stops a text left good s =
 -- These aggregates were read, and others have to follow.
 pub record HasAsked (all : List ℕ) (done : List Aggregate) (text : List ℕ) : Type 0 where
   pub stops : (left : ℕ) → AskedStops text left → AskedStops all left
-  pub gives : (as : List Aggregate) (k : List ℕ) → AreAsked as → text ≡ asked_bytes as ++ k → Takes Anything AreAsked asked_bytes all (done ++ as) k
+  pub gives : (listed : List Aggregate) (k : List ℕ) → AreAsked listed → text ≡ asked_bytes listed ++ k → Takes Anything AreAsked asked_bytes all (done ++ listed) k
 
 pub none_asked : (all : List ℕ) → HasAsked all [] all
-none_asked all = record { stops = λ left s. s; gives = λ as k good is. record { good = good; ends = tt; is = is } }
+none_asked all = record { stops = λ left s. s; gives = λ listed k good is. record { good = good; ends = tt; is = is } }
 
 -- an aggregate, and behind it the word in front of the next
-pub more_asked : (all : List ℕ) (done : List Aggregate) (text behind rest : List ℕ) (a : Aggregate) → HasAsked all done text → Takes Anything IsAggregate aggregate_bytes text a behind → Takes Anything IsBehind behind_bytes behind behind.Aggregate rest → HasAsked all (done ++ a ∷ []) rest
-more_asked all done text behind rest a h t u =
+pub more_asked : (all : List ℕ) (done : List Aggregate) (text after rest : List ℕ) (a : Aggregate) → HasAsked all done text → Takes Anything IsAggregate aggregate_bytes text a after → Takes Anything IsBehind behind_bytes after behind.Aggregate rest → HasAsked all (done ++ a ∷ []) rest
+more_asked all done text after rest a h t u =
     let is : text ≡ aggregate_bytes a ++ (codes ", " ++ rest) = t.is ∙ ap (λ l. aggregate_bytes a ++ l) u.is in
     record {
       stops = λ left s. h.stops left (subst (λ l. AskedStops l left) (append_assoc (aggregate_bytes a) (codes ", ") rest ∙ sym is) (later_asked_stops a rest left t.good s));
-      gives = λ as k good e. given as k good e is;
+      gives = λ listed k good e. given listed k good e is;
     }
   where
-    given : (as : List Aggregate) (k : List ℕ) → AreAsked as → rest ≡ asked_bytes as ++ k → text ≡ aggregate_bytes a ++ (codes ", " ++ rest) → Takes Anything AreAsked asked_bytes all ((done ++ a ∷ []) ++ as) k
+    given : (listed : List Aggregate) (k : List ℕ) → AreAsked listed → rest ≡ asked_bytes listed ++ k → text ≡ aggregate_bytes a ++ (codes ", " ++ rest) → Takes Anything AreAsked asked_bytes all ((done ++ a ∷ []) ++ listed) k
     given [] k good e is = absurd (omega (arith, good.0))
     given (b ∷ more) k good e is =
         let r = h.gives (a ∷ b ∷ more) k (omega arith, (t.good, good.1)) (is ∙ ap (λ l. aggregate_bytes a ++ (codes ", " ++ l)) e ∙ sym (asked_laid a b more k)) in
         subst (λ l. Takes Anything AreAsked asked_bytes all l k) (sym (append_assoc done (a ∷ []) (b ∷ more))) r
 
 -- an aggregate, and behind it the table
-pub asked_done : (all : List ℕ) (done : List Aggregate) (text behind rest : List ℕ) (a : Aggregate) → HasAsked all done text → Takes Anything IsAggregate aggregate_bytes text a behind → Takes Anything IsBehind behind_bytes behind behind.Table rest → Takes Anything AreAsked asked_bytes all (done ++ a ∷ []) rest
-asked_done all done text behind rest a h t u =
+pub asked_done : (all : List ℕ) (done : List Aggregate) (text after rest : List ℕ) (a : Aggregate) → HasAsked all done text → Takes Anything IsAggregate aggregate_bytes text a after → Takes Anything IsBehind behind_bytes after behind.Table rest → Takes Anything AreAsked asked_bytes all (done ++ a ∷ []) rest
+asked_done all done text after rest a h t u =
     h.gives (a ∷ []) rest (omega arith, (t.good, tt)) (t.is ∙ ap (λ l. aggregate_bytes a ++ l) u.is ∙ sym (one_asked a rest))
 
 abbrev pub AskedRefused : List ℕ → Fault → Type 0

@@ -7,3 +7,4 @@ pub mod Literals
 pub mod Conditions
 pub mod Tails
 pub mod Aggregates
+pub mod Selects
