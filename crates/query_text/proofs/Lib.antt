@@ -8,3 +8,4 @@ pub mod Conditions
 pub mod Tails
 pub mod Aggregates
 pub mod Selects
+pub mod Commands

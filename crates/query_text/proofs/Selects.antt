@@ -11,7 +11,7 @@ use Rattle.adg_base.specs.declared.command.What.TheVariants.{All, Aggregates}
 use Rattle.adg_model.specs.Spelling.{IsObj}
 use Rattle.adg_model.specs.Command.{aggregates_bytes, condition_bytes, conditions_bytes, where_bytes, group_bytes, what_bytes, select_bytes, literal_bytes, op_bytes, IsCondition, IsGroup, IsWhat, IsSelect}
 use Rattle.query_text.specs.declared.fault.Fault.{Fault}
-use Rattle.query_text.specs.Stopping.{first, Stops, Refuses, Spelled, Front, Takes, Anything, Begins}
+use Rattle.query_text.specs.Stopping.{first, Stops, Refuses, Spelled, Front, Takes, ReadsAll, Anything, Begins}
 use Rattle.query_text.specs.Parts.{EndsNumber, Ended, test_bytes, tests_bytes, Tail, tail_bytes, IsGroupIn, IsTail, table_tail_bytes, IsTable, AreAsked, asked_bytes, query_bytes, AsksRows, AsksSums}
 use Rattle.query_text.proofs.Stopping.{stops_in, stops_as, refuses}
 use Rattle.query_text.proofs.Numbers.{obj_small}
@@ -206,7 +206,7 @@ sums_of_query : (x : List ℕ) → (first x ≡ Some 42 → ⊥) → Spelled IsS
 sums_of_query x other h =
     record { value = h.value; good = (h.good, λ e. other (ap first (h.is ∙ ap (λ w. what_bytes w ++ (codes " FROM t" ++ table_tail_bytes (behind_what h.value))) e))); is = h.is }
 
-pub rows_refused : (all rest : List ℕ) (fault : Fault) → all ≡ 42 ∷ rest → Refuses (Spelled AsksRows query_bytes) (Spelled AsksRows query_bytes) all fault → Refuses (Spelled IsSelect query_bytes) (Spelled IsSelect query_bytes) all fault
+rows_refused : (all rest : List ℕ) (fault : Fault) → all ≡ 42 ∷ rest → Refuses (Spelled AsksRows query_bytes) (Spelled AsksRows query_bytes) all fault → Refuses (Spelled IsSelect query_bytes) (Spelled IsSelect query_bytes) all fault
 rows_refused all rest fault is r =
     refuses _ _ _ _ all all fault
       (λ left s. stops_as (Spelled AsksRows query_bytes) (Spelled AsksRows query_bytes) (Spelled IsSelect query_bytes) (Spelled IsSelect query_bytes) all left
@@ -215,7 +215,7 @@ rows_refused all rest fault is r =
         s)
       r
 
-pub sums_refused : (all : List ℕ) (fault : Fault) → (first all ≡ Some 42 → ⊥) → Refuses (Spelled AsksSums query_bytes) (Spelled AsksSums query_bytes) all fault → Refuses (Spelled IsSelect query_bytes) (Spelled IsSelect query_bytes) all fault
+sums_refused : (all : List ℕ) (fault : Fault) → (first all ≡ Some 42 → ⊥) → Refuses (Spelled AsksSums query_bytes) (Spelled AsksSums query_bytes) all fault → Refuses (Spelled IsSelect query_bytes) (Spelled IsSelect query_bytes) all fault
 sums_refused all fault other r =
     refuses _ _ _ _ all all fault
       (λ left s. stops_as (Spelled AsksSums query_bytes) (Spelled AsksSums query_bytes) (Spelled IsSelect query_bytes) (Spelled IsSelect query_bytes) all left
@@ -250,3 +250,19 @@ pub select_is : (s : Select) → codes "SELECT " ++ query_bytes s ≡ select_byt
 select_is s =
     ap (λ l. codes "SELECT " ++ (what_bytes s.what ++ (codes " FROM t" ++ (decimal s.obj ++ (l ++ group_bytes s.group))))) (where_is s.conditions)
     ∙ sym (regroup_select (codes "SELECT ") (what_bytes s.what) (codes " FROM ") (codes "t" ++ decimal s.obj) (where_bytes s.conditions) (group_bytes s.group))
+
+pub rows_reads : {Y : Type 0} (value : Y → Select) (all rest : List ℕ) (r : Result Y Fault) → all ≡ 42 ∷ rest → ReadsAll value AsksRows query_bytes all r → ReadsAll value IsSelect query_bytes all r
+rows_reads value all rest (Ok y) is h = (h.0.0, h.1)
+rows_reads value all rest (Err fault) is h = rows_refused all rest fault is h
+
+pub sums_reads : {Y : Type 0} (value : Y → Select) (all : List ℕ) (r : Result Y Fault) → (first all ≡ Some 42 → ⊥) → ReadsAll value AsksSums query_bytes all r → ReadsAll value IsSelect query_bytes all r
+sums_reads value all (Ok y) other h = (h.0.0, h.1)
+sums_reads value all (Err fault) other h = sums_refused all fault other h
+
+-- ---- one query
+
+abbrev pub one_query : Select
+one_query = record { obj = 1; what = All; conditions = []; group = None }
+
+pub one_query_good : IsSelect one_query
+one_query_good = rows_good 1 ([], None) (one_table_good false)

@@ -1,5 +1,5 @@
 -- The parts of a command: what has a spelling, the spelling, and what may follow it.
-use Rattle.std.specs.Prelude.{◌≡◌, ◌≢◌, ℕ, ℤ, pos, ◌<◌, ◌≤◌, Bool, true, false, List, [], ◌∷◌, ◌++◌, length, Option, Some, None, codes}
+use Rattle.std.specs.Prelude.{◌≡◌, ◌≢◌, ℕ, ℤ, pos, ◌<◌, ◌≤◌, Bool, true, false, List, [], ◌∷◌, ◌++◌, length, Option, Some, None, Result, Ok, Err, codes}
 use Rattle.std.specs.List.{AllByRecursion}
 use Rattle.std.specs.Fmt.{decimal}
 use Rattle.adg_base.specs.declared.value.Value.{Value}
@@ -10,6 +10,9 @@ use Rattle.adg_base.specs.declared.command.Op.{Op}
 use Rattle.adg_base.specs.declared.command.What.{What}
 use Rattle.adg_base.specs.declared.command.What.TheVariants.{All, Aggregates}
 use Rattle.adg_base.specs.declared.command.Aggregate.{Aggregate}
+use Rattle.adg_base.specs.declared.command.Command.{Command}
+use Rattle.query_text.specs.declared.fault.Fault.{Fault}
+use Rattle.query_text.specs.declared.fault.Fault.TheVariants.{Stopped}
 use Rattle.query_text.specs.declared.tail.Next.{Next}
 use Rattle.query_text.specs.declared.tail.Next.TheVariants.{Test, Group}
 use Rattle.query_text.specs.declared.aggregate.Function.{Function}
@@ -156,3 +159,8 @@ verb_bytes verb.Abort = codes "ABORT"
 
 abbrev pub IsVerb : Verb → Type 0
 IsVerb v = Unit {0}
+
+-- a command and no bytes behind it, or the fault that bytes are left
+abbrev pub IsWhole : Command → List ℕ → Result Command Fault → Type 0
+IsWhole c rest (Ok d) = (d ≡ c) × (rest ≡ [])
+IsWhole c rest (Err fault) = (fault ≡ Stopped (length rest)) × (rest ≢ [])

@@ -10,7 +10,6 @@ ghost use Rattle.query_text.specs.Parts.{EndsNumber, Ended, IsNumber, IsZero};
 
 use crate::fault::Fault;
 use crate::word::behind_byte;
-use adg_base::number::Obj;
 
 /// The value of the digit in front, and the bytes behind it.
 fn digit_of(bytes: &[u8]) -> Option<(u8, &[u8])>
@@ -69,15 +68,12 @@ pub fn column_of(bytes: &[u8]) -> Result<(u8, &[u8]), Fault>
     Ok((column as u8, rest))
 }
 
-/// The object at the front, 1 to 65535, and the bytes behind it.
-pub fn object_of(bytes: &[u8]) -> Result<(Obj, &[u8]), Fault>
+/// The number of an object at the front, 1 to 65535, and the bytes behind it.
+pub fn object_of(bytes: &[u8]) -> Result<(u16, &[u8]), Fault>
     ensures { Reads (λ x. x.0) (λ x. x.1.now) Ended IsObj decimal bytes.now result }
 {
-    let (number, rest) = number_of(bytes, 65535)?;
-    match Obj::new(number as u16) {
-        Some(obj) => Ok((obj, rest)),
-        None => Err(Fault::Stopped { left: bytes.len() }),
-    }
+    let (obj, rest) = number_of(bytes, 65535)?;
+    Ok((obj as u16, rest))
 }
 
 /// The negative of a size.

@@ -1,12 +1,12 @@
 //! The command that a text spells.
 
-ghost use Rattle.std.specs.Prelude.{◌≡◌, ◌≢◌, ℕ, ◌<◌, ◌^◌, ◌⊎◌, [], length, MatchResult, IfOk};
+ghost use Rattle.std.specs.Prelude.{◌≡◌, ℕ, ◌<◌, ◌^◌, ◌⊎◌, length, IfOk};
 ghost use Rattle.std.specs.Fmt.{decimal};
 ghost use Rattle.adg_base.specs.declared.command.Command.{Command};
 ghost use Rattle.adg_model.specs.Spelling.{IsObj};
 ghost use Rattle.adg_model.specs.Command.{command_bytes, IsCommand, Spells, IsBadQuery};
 ghost use Rattle.query_text.specs.Stopping.{Reads, ReadsAll, Anything};
-ghost use Rattle.query_text.specs.Parts.{IsVerb, verb_bytes};
+ghost use Rattle.query_text.specs.Parts.{IsVerb, verb_bytes, IsWhole};
 
 use crate::fault::Fault;
 use crate::number::object_of;
@@ -43,8 +43,7 @@ fn verb_of(bytes: &[u8]) -> Result<(Verb, &[u8]), Fault>
 
 /// The command, where no bytes are left behind it.
 fn whole(command: Command, rest: &[u8]) -> Result<Command, Fault>
-    ensures { MatchResult result (λ c. (c ≡ command) × (rest.now ≡ []))
-        (λ fault. (fault ≡ Fault.Stopped (length rest.now)) × (rest.now ≢ [])) }
+    ensures { IsWhole command rest.now result }
 {
     if rest.is_empty() {
         Ok(command)
@@ -58,7 +57,10 @@ fn populated(bytes: &[u8]) -> Result<Obj, Fault>
     ensures { ReadsAll (λ o. o) IsObj decimal bytes.now result }
 {
     match object_of(bytes) {
-        Ok((obj, [])) => Ok(obj),
+        Ok((obj, [])) => match Obj::new(obj) {
+            Some(obj) => Ok(obj),
+            None => Err(Fault::Stopped { left: bytes.len() }),
+        },
         Ok((_, rest)) => Err(Fault::Stopped { left: rest.len() }),
         Err(fault) => Err(fault),
     }

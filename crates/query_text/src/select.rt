@@ -27,16 +27,15 @@ struct Table {
 fn table_of(alloc: Global, bytes: &[u8], grouped: bool) -> Result<Table, Fault>
     ensures { ReadsAll (λ t. (t.obj, (t.conditions, t.group))) (IsTable grouped) table_tail_bytes bytes.now result }
 {
-    match object_of(bytes) {
-        Ok((obj, rest)) => {
-            let (conditions, group) = tail_of(alloc, rest, grouped)?;
-            Ok(Table {
-                obj,
-                conditions: List::from_vec(conditions),
-                group,
-            })
-        }
-        Err(fault) => Err(fault),
+    let (obj, rest) = object_of(bytes)?;
+    let (conditions, group) = tail_of(alloc, rest, grouped)?;
+    match Obj::new(obj) {
+        Some(obj) => Ok(Table {
+            obj,
+            conditions: List::from_vec(conditions),
+            group,
+        }),
+        None => Err(Fault::Stopped { left: bytes.len() }),
     }
 }
 
