@@ -30,8 +30,8 @@ function_meant a b c d Max = inr (inr (inr (inl refl)))
 pub function_reads : {W Y : Type 0} (now : W → List ℕ) (a b c d : W) → now a ≡ codes "COUNT" → now b ≡ codes "SUM(c" → now c ≡ codes "MIN(c" → now d ≡ codes "MAX(c" → (meaning : Y → Function) (rest : Y → List ℕ) (text : List ℕ) (r : Result Y Fault) → Finds now ((a, Count) ∷ (b, Sum) ∷ (c, Min) ∷ (d, Max) ∷ []) meaning rest text r → Reads meaning rest Anything IsFunction function_bytes text r
 function_reads now a b c d ha hb hc hd meaning rest text r h =
     table_reads now IsFunction function_bytes ((a, Count) ∷ (b, Sum) ∷ (c, Min) ∷ (d, Max) ∷ [])
-      (record { sound = ((tt, ha), ((tt, hb), ((tt, hc), ((tt, hd), tt)))); whole = λ t good. function_meant a b c d t; one = Count; one_good = tt })
-      meaning rest text r h
+    (record { sound = ((tt, ha), ((tt, hb), ((tt, hc), ((tt, hd), tt)))); whole = λ t good. function_meant a b c d t; one = Count; one_good = tt })
+    meaning rest text r h
 
 behind_meant : {W : Type 0} (a b : W) (t : Behind) → IsMeant ((a, behind.Aggregate) ∷ (b, behind.Table) ∷ []) t
 behind_meant a b behind.Aggregate = inl refl
@@ -40,8 +40,8 @@ behind_meant a b behind.Table = inr (inl refl)
 pub behind_reads : {W Y : Type 0} (now : W → List ℕ) (a b : W) → now a ≡ codes ", " → now b ≡ codes " FROM t" → (meaning : Y → Behind) (rest : Y → List ℕ) (text : List ℕ) (r : Result Y Fault) → Finds now ((a, behind.Aggregate) ∷ (b, behind.Table) ∷ []) meaning rest text r → Reads meaning rest Anything IsBehind behind_bytes text r
 behind_reads now a b ha hb meaning rest text r h =
     table_reads now IsBehind behind_bytes ((a, behind.Aggregate) ∷ (b, behind.Table) ∷ [])
-      (record { sound = ((tt, ha), ((tt, hb), tt)); whole = λ t good. behind_meant a b t; one = behind.Aggregate; one_good = tt })
-      meaning rest text r h
+    (record { sound = ((tt, ha), ((tt, hb), tt)); whole = λ t good. behind_meant a b t; one = behind.Aggregate; one_good = tt })
+    meaning rest text r h
 
 -- ---- a column up to a bracket
 
@@ -51,16 +51,16 @@ ArgumentStops text left = Stops (Spelled IsColumn argument_bytes) (Front Anythin
 argument_column_stops : (text : List ℕ) (left : ℕ) → Stops (Spelled IsColumn decimal) (Front Ended IsColumn decimal) text left → ArgumentStops text left
 argument_column_stops text left s =
     stops_as (Spelled IsColumn decimal) (Front Ended IsColumn decimal) (Spelled IsColumn argument_bytes) (Front Anything IsColumn argument_bytes) text left
-      (λ x h. (codes ")", record { value = h.value; good = h.good; is = ap (λ l. l ++ codes ")") h.is }))
-      (λ x e f. record { value = f.value; rest = 41 ∷ f.rest; good = f.good; ends = λ i. omega (arith, i.0, i.1); is = f.is ∙ append_assoc (decimal f.value) (41 ∷ []) f.rest })
-      s
+    (λ x h. (codes ")", record { value = h.value; good = h.good; is = ap (λ l. l ++ codes ")") h.is }))
+    (λ x e f. record { value = f.value; rest = 41 ∷ f.rest; good = f.good; ends = λ i. omega (arith, i.0, i.1); is = f.is ∙ append_assoc (decimal f.value) (41 ∷ []) f.rest })
+    s
 
 bracket_stops : (n : ℕ) (text : List ℕ) (left : ℕ) → IsColumn n → EndsNumber text → Stops (λ x. x ≡ codes ")") (Begins (codes ")")) text left → ArgumentStops (decimal n ++ text) left
 bracket_stops n text left good ends s =
     stops_in (λ x. x ≡ codes ")") (Begins (codes ")")) (Spelled IsColumn argument_bytes) (Front Anything IsColumn argument_bytes) (decimal n) text left
-      (λ x h. ([], record { value = n; good = good; is = ap (λ l. decimal n ++ l) (append-nil x ∙ h) }))
-      (λ x e f. (f.rest, (column_apart n f.value x (41 ∷ f.rest) good f.good (ends_same x text e ends) (λ i. omega (arith, i.0, i.1)) (f.is ∙ append_assoc (decimal f.value) (41 ∷ []) f.rest)).1))
-      s
+    (λ x h. ([], record { value = n; good = good; is = ap (λ l. decimal n ++ l) (append-nil x ∙ h) }))
+    (λ x e f. (f.rest, (column_apart n f.value x (41 ∷ f.rest) good f.good (ends_same x text e ends) (λ i. omega (arith, i.0, i.1)) (f.is ∙ append_assoc (decimal f.value) (41 ∷ []) f.rest)).1))
+    s
 
 pub argument_column_refused : (text : List ℕ) (fault : Fault) → Refuses (Spelled IsColumn decimal) (Front Ended IsColumn decimal) text fault → Refuses (Spelled IsColumn argument_bytes) (Front Anything IsColumn argument_bytes) text fault
 argument_column_refused text fault r = refuses _ _ _ _ text text fault (λ left s. argument_column_stops text left s) r
@@ -92,17 +92,19 @@ TakesColumn Max = Unit {0}
 function_stops : (text : List ℕ) (left : ℕ) → Stops (Spelled IsFunction function_bytes) (Front Anything IsFunction function_bytes) text left → AggregateStops text left
 function_stops text left s =
     stops_as (Spelled IsFunction function_bytes) (Front Anything IsFunction function_bytes) (Spelled IsAggregate aggregate_bytes) (Front Anything IsAggregate aggregate_bytes) text left
-      (λ x h. goes_on x h.value h.is)
-      (λ x e f. of_function x f.value f.rest f.is)
-      s
+    (λ x h. goes_on x h.value h.is)
+    (λ x e f. of_function x f.value f.rest f.is)
+    s
   where
     one : IsColumn 1
     one = (omega arith, omega arith)
+
     goes_on : (x : List ℕ) (f : Function) → x ≡ function_bytes f → (k : List ℕ) × Spelled IsAggregate aggregate_bytes (x ++ k)
     goes_on x Count e = ([], record { value = aggregate.Count; good = tt; is = append-nil x ∙ e })
     goes_on x Sum e = (argument_bytes 1, record { value = aggregate.Sum 1; good = one; is = ap (λ l. l ++ argument_bytes 1) e })
     goes_on x Min e = (argument_bytes 1, record { value = aggregate.Min 1; good = one; is = ap (λ l. l ++ argument_bytes 1) e })
     goes_on x Max e = (argument_bytes 1, record { value = aggregate.Max 1; good = one; is = ap (λ l. l ++ argument_bytes 1) e })
+
     of_function : (x : List ℕ) (a : Aggregate) (rest : List ℕ) → x ≡ aggregate_bytes a ++ rest → Front Anything IsFunction function_bytes x
     of_function x aggregate.Count rest e = record { value = Count; rest = rest; good = tt; ends = tt; is = e }
     of_function x (aggregate.Sum n) rest e = record { value = Sum; rest = argument_bytes n ++ rest; good = tt; ends = tt; is = e }
@@ -131,9 +133,9 @@ behind_function f x a rest t good e = absurd (omega (arith, ap (λ l. get_or l 0
 argument_stops : (f : Function) (text : List ℕ) (left : ℕ) → TakesColumn f → ArgumentStops text left → AggregateStops (function_bytes f ++ text) left
 argument_stops f text left t s =
     stops_in (Spelled IsColumn argument_bytes) (Front Anything IsColumn argument_bytes) (Spelled IsAggregate aggregate_bytes) (Front Anything IsAggregate aggregate_bytes) (function_bytes f) text left
-      (λ x h. ([], record { value = of_column f h.value; good = of_column_good f h.value h.good; is = ap (λ l. function_bytes f ++ l) (append-nil x ∙ h.is) ∙ of_column_bytes f h.value t }))
-      (λ x e h. behind_function f x h.value h.rest t h.good h.is)
-      s
+    (λ x h. ([], record { value = of_column f h.value; good = of_column_good f h.value h.good; is = ap (λ l. function_bytes f ++ l) (append-nil x ∙ h.is) ∙ of_column_bytes f h.value t }))
+    (λ x e h. behind_function f x h.value h.rest t h.good h.is)
+    s
 
 abbrev pub AggregateRefused : List ℕ → Fault → Type 0
 AggregateRefused text fault = Refuses (Spelled IsAggregate aggregate_bytes) (Front Anything IsAggregate aggregate_bytes) text fault
@@ -188,9 +190,9 @@ begins_asked x f = asked_cases f.value f.rest f.good f.is
 aggregate_asked_stops : (text : List ℕ) (left : ℕ) → AggregateStops text left → AskedStops text left
 aggregate_asked_stops text left s =
     stops_as (Spelled IsAggregate aggregate_bytes) (Front Anything IsAggregate aggregate_bytes) (Spelled AreAsked asked_bytes) (Front Anything AreAsked asked_bytes) text left
-      (λ x h. (codes " FROM t", record { value = h.value ∷ []; good = (omega arith, (h.good, tt)); is = ap (λ l. l ++ codes " FROM t") h.is }))
-      (λ x e f. let b = begins_asked x f in record { value = b.one; rest = b.rest; good = b.good; ends = tt; is = b.is })
-      s
+    (λ x h. (codes " FROM t", record { value = h.value ∷ []; good = (omega arith, (h.good, tt)); is = ap (λ l. l ++ codes " FROM t") h.is }))
+    (λ x e f. let b = begins_asked x f in record { value = b.one; rest = b.rest; good = b.good; ends = tt; is = b.is })
+    s
 
 two_asked : (a : Aggregate) → asked_bytes (a ∷ aggregate.Count ∷ []) ≡ aggregate_bytes a ++ (codes ", " ++ codes "COUNT FROM t")
 two_asked a = sym (append-nil (asked_bytes (a ∷ aggregate.Count ∷ []))) ∙ asked_laid a aggregate.Count [] []
@@ -198,26 +200,28 @@ two_asked a = sym (append-nil (asked_bytes (a ∷ aggregate.Count ∷ []))) ∙ 
 behind_asked_stops : (a : Aggregate) (text : List ℕ) (left : ℕ) → IsAggregate a → Stops (Spelled IsBehind behind_bytes) (Front Anything IsBehind behind_bytes) text left → AskedStops (aggregate_bytes a ++ text) left
 behind_asked_stops a text left good s =
     stops_in (Spelled IsBehind behind_bytes) (Front Anything IsBehind behind_bytes) (Spelled AreAsked asked_bytes) (Front Anything AreAsked asked_bytes) (aggregate_bytes a) text left
-      (λ x h. goes_on x h.value h.is)
-      (λ x e f. of_behind x (begins_asked (aggregate_bytes a ++ x) f))
-      s
+    (λ x h. goes_on x h.value h.is)
+    (λ x e f. of_behind x (begins_asked (aggregate_bytes a ++ x) f))
+    s
   where
     goes_on : (x : List ℕ) (b : Behind) → x ≡ behind_bytes b → (k : List ℕ) × Spelled AreAsked asked_bytes (aggregate_bytes a ++ (x ++ k))
     goes_on x behind.Aggregate e = (codes "COUNT FROM t", record { value = a ∷ aggregate.Count ∷ []; good = (omega arith, (good, (tt, tt))); is = ap (λ l. aggregate_bytes a ++ (l ++ codes "COUNT FROM t")) e ∙ sym (two_asked a) })
     goes_on x behind.Table e = ([], record { value = a ∷ []; good = (omega arith, (good, tt)); is = ap (λ l. aggregate_bytes a ++ l) (append-nil x ∙ e) })
+
     of_behind : (x : List ℕ) → BeginsAsked (aggregate_bytes a ++ x) → Front Anything IsBehind behind_bytes x
     of_behind x b =
         let p = aggregate_apart a b.one x b.rest good b.good b.is in
         elim b.follows [
-          inl f ↦ record { value = behind.Table; rest = f.0; good = tt; ends = tt; is = p.1 ∙ f.1 }
-        | inr f ↦ record { value = behind.Aggregate; rest = f.0; good = tt; ends = tt; is = p.1 ∙ f.1 } ]
+          | inl f ↦ record { value = behind.Table; rest = f.0; good = tt; ends = tt; is = p.1 ∙ f.1 }
+          | inr f ↦ record { value = behind.Aggregate; rest = f.0; good = tt; ends = tt; is = p.1 ∙ f.1 }
+        ]
 
 later_asked_stops : (a : Aggregate) (text : List ℕ) (left : ℕ) → IsAggregate a → AskedStops text left → AskedStops ((aggregate_bytes a ++ codes ", ") ++ text) left
 later_asked_stops a text left good s =
     stops_in (Spelled AreAsked asked_bytes) (Front Anything AreAsked asked_bytes) (Spelled AreAsked asked_bytes) (Front Anything AreAsked asked_bytes) (aggregate_bytes a ++ codes ", ") text left
-      (λ x h. ([], goes_on x h.value h.good (append-nil x ∙ h.is)))
-      (λ x e f. of_later x (begins_asked (aggregate_bytes a ++ (codes ", " ++ x)) (subst (Front Anything AreAsked asked_bytes) (append_assoc (aggregate_bytes a) (codes ", ") x) f)))
-      s
+    (λ x h. ([], goes_on x h.value h.good (append-nil x ∙ h.is)))
+    (λ x e f. of_later x (begins_asked (aggregate_bytes a ++ (codes ", " ++ x)) (subst (Front Anything AreAsked asked_bytes) (append_assoc (aggregate_bytes a) (codes ", ") x) f)))
+    s
   where
     goes_on : (x : List ℕ) (listed : List Aggregate) → AreAsked listed → x ++ [] ≡ asked_bytes listed → Spelled AreAsked asked_bytes ((aggregate_bytes a ++ codes ", ") ++ (x ++ []))
     goes_on x [] h e = absurd (omega (arith, h.0))
@@ -227,12 +231,14 @@ later_asked_stops a text left good s =
           good = (omega arith, (good, h.1));
           is = ap (λ l. (aggregate_bytes a ++ codes ", ") ++ l) e ∙ append_assoc (aggregate_bytes a) (codes ", ") (asked_bytes (b ∷ more)) ∙ ap (λ l. aggregate_bytes a ++ (codes ", " ++ l)) (sym (append-nil (asked_bytes (b ∷ more)))) ∙ sym (asked_laid a b more []) ∙ append-nil (asked_bytes (a ∷ b ∷ more));
         }
+
     of_later : (x : List ℕ) → BeginsAsked (aggregate_bytes a ++ (codes ", " ++ x)) → Front Anything AreAsked asked_bytes x
     of_later x b =
         let p = aggregate_apart a b.one (codes ", " ++ x) b.rest good b.good b.is in
         elim b.follows [
-          inl f ↦ absurd (omega (arith, ap (λ l. get_or l 0 0) (p.1 ∙ f.1)))
-        | inr f ↦ subst (Front Anything AreAsked asked_bytes) (sym (ap (drop 2) (p.1 ∙ f.1))) f.2 ]
+          | inl f ↦ absurd (omega (arith, ap (λ l. get_or l 0 0) (p.1 ∙ f.1)))
+          | inr f ↦ subst (Front Anything AreAsked asked_bytes) (sym (ap (drop 2) (p.1 ∙ f.1))) f.2
+        ]
 
 -- ---- the loop
 

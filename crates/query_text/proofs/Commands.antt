@@ -35,8 +35,8 @@ verb_meant a b c d e Abort = inr (inr (inr (inr (inl refl))))
 pub verb_reads : {W Y : Type 0} (now : W → List ℕ) (a b c d e : W) → now a ≡ codes "SELECT " → now b ≡ codes "POPULATE t" → now c ≡ codes "SYNC" → now d ≡ codes "SHOW SCN" → now e ≡ codes "ABORT" → (meaning : Y → Verb) (rest : Y → List ℕ) (text : List ℕ) (r : Result Y Fault) → Finds now ((a, verb.Select) ∷ (b, Populate) ∷ (c, Sync) ∷ (d, ShowScn) ∷ (e, Abort) ∷ []) meaning rest text r → Reads meaning rest Anything IsVerb verb_bytes text r
 verb_reads now a b c d e ha hb hc hd he meaning rest text r h =
     table_reads now IsVerb verb_bytes ((a, verb.Select) ∷ (b, Populate) ∷ (c, Sync) ∷ (d, ShowScn) ∷ (e, Abort) ∷ [])
-      (record { sound = ((tt, ha), ((tt, hb), ((tt, hc), ((tt, hd), ((tt, he), tt))))); whole = λ t good. verb_meant a b c d e t; one = Sync; one_good = tt })
-      meaning rest text r h
+    (record { sound = ((tt, ha), ((tt, hb), ((tt, hc), ((tt, hd), ((tt, he), tt))))); whole = λ t good. verb_meant a b c d e t; one = Sync; one_good = tt })
+    meaning rest text r h
 
 abbrev pub CommandStops : List ℕ → ℕ → Type 0
 CommandStops text left = Stops (Spelled IsCommand command_bytes) (Spelled IsCommand command_bytes) text left
@@ -44,9 +44,9 @@ CommandStops text left = Stops (Spelled IsCommand command_bytes) (Spelled IsComm
 verb_stops : (text : List ℕ) (left : ℕ) → Stops (Spelled IsVerb verb_bytes) (Front Anything IsVerb verb_bytes) text left → CommandStops text left
 verb_stops text left s =
     stops_as (Spelled IsVerb verb_bytes) (Front Anything IsVerb verb_bytes) (Spelled IsCommand command_bytes) (Spelled IsCommand command_bytes) text left
-      (λ x h. goes_on x h.value h.is)
-      (λ x e h. of_verb x h.value h.is)
-      s
+    (λ x h. goes_on x h.value h.is)
+    (λ x e h. of_verb x h.value h.is)
+    s
   where
     goes_on : (x : List ℕ) (v : Verb) → x ≡ verb_bytes v → (k : List ℕ) × Spelled IsCommand command_bytes (x ++ k)
     goes_on x verb.Select e = (query_bytes one_query, record { value = command.Select one_query; good = one_query_good; is = ap (λ l. l ++ query_bytes one_query) e ∙ select_is one_query })
@@ -54,6 +54,7 @@ verb_stops text left s =
     goes_on x Sync e = ([], record { value = command.Sync; good = tt; is = append-nil x ∙ e })
     goes_on x ShowScn e = ([], record { value = command.ShowScn; good = tt; is = append-nil x ∙ e })
     goes_on x Abort e = ([], record { value = command.Abort; good = tt; is = append-nil x ∙ e })
+
     of_verb : (x : List ℕ) (c : Command) → x ≡ command_bytes c → Front Anything IsVerb verb_bytes x
     of_verb x (command.Select s) e = record { value = verb.Select; rest = query_bytes s; good = tt; ends = tt; is = e ∙ sym (select_is s) }
     of_verb x (command.Populate o) e = record { value = Populate; rest = decimal o; good = tt; ends = tt; is = e }
@@ -74,16 +75,16 @@ of_populate x c good e = absurd (omega (arith, ap (λ l. get_or l 0 0) e))
 query_stops : (text : List ℕ) (left : ℕ) → Stops (Spelled IsSelect query_bytes) (Spelled IsSelect query_bytes) text left → CommandStops (codes "SELECT " ++ text) left
 query_stops text left s =
     stops_in (Spelled IsSelect query_bytes) (Spelled IsSelect query_bytes) (Spelled IsCommand command_bytes) (Spelled IsCommand command_bytes) (codes "SELECT ") text left
-      (λ x h. ([], record { value = command.Select h.value; good = h.good; is = ap (λ l. codes "SELECT " ++ l) (append-nil x ∙ h.is) ∙ select_is h.value }))
-      (λ x e h. of_select x h.value h.good h.is)
-      s
+    (λ x h. ([], record { value = command.Select h.value; good = h.good; is = ap (λ l. codes "SELECT " ++ l) (append-nil x ∙ h.is) ∙ select_is h.value }))
+    (λ x e h. of_select x h.value h.good h.is)
+    s
 
 populate_stops : (text : List ℕ) (left : ℕ) → Stops (Spelled IsObj decimal) (Spelled IsObj decimal) text left → CommandStops (codes "POPULATE t" ++ text) left
 populate_stops text left s =
     stops_in (Spelled IsObj decimal) (Spelled IsObj decimal) (Spelled IsCommand command_bytes) (Spelled IsCommand command_bytes) (codes "POPULATE t") text left
-      (λ x h. ([], record { value = command.Populate h.value; good = h.good; is = ap (λ l. codes "POPULATE t" ++ l) (append-nil x ∙ h.is) }))
-      (λ x e h. of_populate x h.value h.good h.is)
-      s
+    (λ x h. ([], record { value = command.Populate h.value; good = h.good; is = ap (λ l. codes "POPULATE t" ++ l) (append-nil x ∙ h.is) }))
+    (λ x e h. of_populate x h.value h.good h.is)
+    s
 
 -- a command that is one word
 abbrev pub word_command : Verb → Option Command

@@ -27,13 +27,13 @@ op_meant a b c d e f op.Ge = inr (inr (inr (inr (inr (inl refl)))))
 pub op_reads : {W Y : Type 0} (now : W → List ℕ) (a b c d e f : W) → now a ≡ spaced_op op.Eq → now b ≡ spaced_op op.Ne → now c ≡ spaced_op op.Lt → now d ≡ spaced_op op.Le → now e ≡ spaced_op op.Gt → now f ≡ spaced_op op.Ge → (meaning : Y → Op) (rest : Y → List ℕ) (text : List ℕ) (r : Result Y Fault) → Finds now ((a, op.Eq) ∷ (b, op.Ne) ∷ (c, op.Lt) ∷ (d, op.Le) ∷ (e, op.Gt) ∷ (f, op.Ge) ∷ []) meaning rest text r → Reads meaning rest Anything IsOp spaced_op text r
 op_reads now a b c d e f ha hb hc hd he hf meaning rest text r h =
     table_reads now IsOp spaced_op ((a, op.Eq) ∷ (b, op.Ne) ∷ (c, op.Lt) ∷ (d, op.Le) ∷ (e, op.Gt) ∷ (f, op.Ge) ∷ [])
-      (record {
-        sound = ((tt, ha), ((tt, hb), ((tt, hc), ((tt, hd), ((tt, he), ((tt, hf), tt))))));
-        whole = λ t good. op_meant a b c d e f t;
-        one = op.Eq;
-        one_good = tt;
-      })
-      meaning rest text r h
+    (record {
+      sound = ((tt, ha), ((tt, hb), ((tt, hc), ((tt, hd), ((tt, he), ((tt, hf), tt))))));
+      whole = λ t good. op_meant a b c d e f t;
+      one = op.Eq;
+      one_good = tt;
+    })
+    meaning rest text r h
 
 pub ends_same : (x text : List ℕ) → first x ≡ first text → EndsNumber text → EndsNumber x
 ends_same [] text e ends = tt
@@ -58,9 +58,9 @@ tested_good n o good = (good, omega arith, no_null_int (pos 0))
 column_stops : (text : List ℕ) (left : ℕ) → Stops (Spelled IsColumn decimal) (Front Ended IsColumn decimal) text left → TestStops text left
 column_stops text left s =
     stops_as (Spelled IsColumn decimal) (Front Ended IsColumn decimal) (Spelled IsCondition test_bytes) (Front EndsTest IsCondition test_bytes) text left
-      (λ x h. (spaced_op op.Eq ++ literal_bytes (Int (pos 0)), record { value = tested h.value op.Eq; good = tested_good h.value op.Eq h.good; is = ap (λ l. l ++ (spaced_op op.Eq ++ literal_bytes (Int (pos 0)))) h.is }))
-      (λ x e f. record { value = f.value.column; rest = 32 ∷ (op_bytes f.value.op ++ 32 ∷ (literal_bytes f.value.literal ++ f.rest)); good = f.good.0; ends = λ i. omega (arith, i.0); is = f.is ∙ test_laid f.value f.rest })
-      s
+    (λ x h. (spaced_op op.Eq ++ literal_bytes (Int (pos 0)), record { value = tested h.value op.Eq; good = tested_good h.value op.Eq h.good; is = ap (λ l. l ++ (spaced_op op.Eq ++ literal_bytes (Int (pos 0)))) h.is }))
+    (λ x e f. record { value = f.value.column; rest = 32 ∷ (op_bytes f.value.op ++ 32 ∷ (literal_bytes f.value.literal ++ f.rest)); good = f.good.0; ends = λ i. omega (arith, i.0); is = f.is ∙ test_laid f.value f.rest })
+    s
 
 behind_column : (n : ℕ) (x : List ℕ) → IsColumn n → EndsNumber x → (f : Front EndsTest IsCondition test_bytes (decimal n ++ x)) → x ≡ 32 ∷ (op_bytes f.value.op ++ 32 ∷ (literal_bytes f.value.literal ++ f.rest))
 behind_column n x good ends f =
@@ -69,9 +69,9 @@ behind_column n x good ends f =
 op_stops : (n : ℕ) (text : List ℕ) (left : ℕ) → IsColumn n → EndsNumber text → Stops (Spelled IsOp spaced_op) (Front Anything IsOp spaced_op) text left → TestStops (decimal n ++ text) left
 op_stops n text left good ends s =
     stops_in (Spelled IsOp spaced_op) (Front Anything IsOp spaced_op) (Spelled IsCondition test_bytes) (Front EndsTest IsCondition test_bytes) (decimal n) text left
-      (λ x h. (literal_bytes (Int (pos 0)), record { value = tested n h.value; good = tested_good n h.value good; is = ap (λ l. decimal n ++ (l ++ literal_bytes (Int (pos 0)))) h.is }))
-      (λ x e f. record { value = f.value.op; rest = literal_bytes f.value.literal ++ f.rest; good = tt; ends = tt; is = behind_column n x good (ends_same x text e ends) f ∙ ap (λ l. 32 ∷ l) (sym (append_assoc (op_bytes f.value.op) (32 ∷ []) (literal_bytes f.value.literal ++ f.rest))) })
-      s
+    (λ x h. (literal_bytes (Int (pos 0)), record { value = tested n h.value; good = tested_good n h.value good; is = ap (λ l. decimal n ++ (l ++ literal_bytes (Int (pos 0)))) h.is }))
+    (λ x e f. record { value = f.value.op; rest = literal_bytes f.value.literal ++ f.rest; good = tt; ends = tt; is = behind_column n x good (ends_same x text e ends) f ∙ ap (λ l. 32 ∷ l) (sym (append_assoc (op_bytes f.value.op) (32 ∷ []) (literal_bytes f.value.literal ++ f.rest))) })
+    s
 
 behind_op : (n : ℕ) (o : Op) (x : List ℕ) → IsColumn n → Front EndsTest IsCondition test_bytes ((decimal n ++ spaced_op o) ++ x) → Front EndsLiteral IsLiteral literal_bytes x
 behind_op n o x good f =
@@ -84,9 +84,9 @@ behind_op n o x good f =
 literal_stops : (n : ℕ) (o : Op) (text : List ℕ) (left : ℕ) → IsColumn n → Stops (Spelled IsLiteral literal_bytes) (Front EndsLiteral IsLiteral literal_bytes) text left → TestStops ((decimal n ++ spaced_op o) ++ text) left
 literal_stops n o text left good s =
     stops_in (Spelled IsLiteral literal_bytes) (Front EndsLiteral IsLiteral literal_bytes) (Spelled IsCondition test_bytes) (Front EndsTest IsCondition test_bytes) (decimal n ++ spaced_op o) text left
-      (λ x h. ([], record { value = record { column = n; op = o; literal = h.value }; good = (good, h.good.0, h.good.1); is = ap (λ l. (decimal n ++ spaced_op o) ++ l) (append-nil x ∙ h.is) ∙ append_assoc (decimal n) (spaced_op o) (literal_bytes h.value) }))
-      (λ x e f. behind_op n o x good f)
-      s
+    (λ x h. ([], record { value = record { column = n; op = o; literal = h.value }; good = (good, h.good.0, h.good.1); is = ap (λ l. (decimal n ++ spaced_op o) ++ l) (append-nil x ∙ h.is) ∙ append_assoc (decimal n) (spaced_op o) (literal_bytes h.value) }))
+    (λ x e f. behind_op n o x good f)
+    s
 
 -- ---- what a call gave
 

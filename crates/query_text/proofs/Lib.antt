@@ -9,3 +9,4 @@ pub mod Tails
 pub mod Aggregates
 pub mod Selects
 pub mod Commands
+pub mod Printed

@@ -73,8 +73,10 @@ no_text bytes n h text k rest good other same e =
         at_least : (l : List ℕ) → first l ≡ Some c → length l ≡ length bytes - n → n < length bytes
         at_least [] e f = absurd cc
         at_least (d ∷ l) e f = omega (arith, f)
+
     byte_at : (bytes : List ℕ) (n c : ℕ) → n < length bytes → first (drop n bytes) ≡ Some c → get_or bytes n 0 ≡ c
     byte_at bytes n c lt e = let f : first (drop n bytes) ≡ Some (get_or bytes n 0) = ap first (drop_more bytes n 0 lt) in cc
+
     two_tests : (b : Bool) → b ≡ true → b ≡ false → ⊥
     two_tests b e f = absurd cc
 
@@ -89,8 +91,8 @@ text_stops bytes n h other =
       begins = record { value = take n bytes; good = front_text bytes n h; is = refl };
       none = λ f. no_text bytes n h f.value f.rest (drop n bytes) f.good other refl (sym (append_assoc f.value (39 ∷ []) f.rest) ∙ sym f.is ∙ sym (take-append-drop n bytes));
       longest = λ c cs later is f.
-        let same : first (c ∷ later) ≡ first (drop n bytes) = sym (ap first is) in
-        no_text bytes n h f.value f.rest (c ∷ later) f.good (λ q. other (sym same ∙ q)) same (sym (append_assoc f.value (39 ∷ []) f.rest) ∙ sym f.is);
+          let same : first (c ∷ later) ≡ first (drop n bytes) = sym (ap first is) in
+          no_text bytes n h f.value f.rest (c ∷ later) f.good (λ q. other (sym same ∙ q)) same (sym (append_assoc f.value (39 ∷ []) f.rest) ∙ sym f.is);
     }
 
 pub text_takes : (bytes behind : List ℕ) (n : ℕ) → IsTextLen bytes n → drop n bytes ≡ 39 ∷ behind → Takes Anything IsText closed bytes (take n bytes) behind
@@ -123,9 +125,9 @@ no_null_int n e = absurd cc
 pub text_literal_stops : (text : List ℕ) (left : ℕ) → TextStops text left → LiteralStops (39 ∷ text) left
 text_literal_stops text left s =
     stops_in (Spelled IsText closed) (Front Anything IsText closed) (Spelled IsLiteral literal_bytes) (Front EndsLiteral IsLiteral literal_bytes) (39 ∷ []) text left
-      (λ x h. ([], record { value = Text h.value; good = (h.good, no_null_text h.value); is = ap (λ l. 39 ∷ l) (append-nil x ∙ h.is) }))
-      (λ x e f. text_of_literal x f)
-      s
+    (λ x h. ([], record { value = Text h.value; good = (h.good, no_null_text h.value); is = ap (λ l. 39 ∷ l) (append-nil x ∙ h.is) }))
+    (λ x e f. text_of_literal x f)
+    s
 
 int_of_literal : (x : List ℕ) → (first x ≡ Some 39 → ⊥) → Front EndsLiteral IsLiteral literal_bytes x → Front Ended (FitsSigned w64) signed_decimal x
 int_of_literal x other f = int_cases f.value f.rest f.good f.ends f.is
@@ -138,9 +140,9 @@ int_of_literal x other f = int_cases f.value f.rest f.good f.ends f.is
 pub int_literal_stops : (text : List ℕ) (left : ℕ) → (first text ≡ Some 39 → ⊥) → Stops (Spelled (FitsSigned w64) signed_decimal) (Front Ended (FitsSigned w64) signed_decimal) text left → LiteralStops text left
 int_literal_stops text left other s =
     stops_as (Spelled (FitsSigned w64) signed_decimal) (Front Ended (FitsSigned w64) signed_decimal) (Spelled IsLiteral literal_bytes) (Front EndsLiteral IsLiteral literal_bytes) text left
-      (λ x h. ([], record { value = Int h.value; good = (h.good, no_null_int h.value); is = append-nil x ∙ h.is }))
-      (λ x e f. int_of_literal x (λ q. other (sym e ∙ q)) f)
-      s
+    (λ x h. ([], record { value = Int h.value; good = (h.good, no_null_int h.value); is = append-nil x ∙ h.is }))
+    (λ x e f. int_of_literal x (λ q. other (sym e ∙ q)) f)
+    s
 
 -- ---- what a call gave
 

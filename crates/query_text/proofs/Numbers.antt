@@ -112,7 +112,7 @@ more_digits limit bytes rest others n d more lim le e good is h =
 digit_stops_of : (limit : ℕ) (bytes others : List ℕ) (n d : ℕ) → 9 ≤ limit → limit < 2 ^ 64 → d ≤ 9 → (IsNumber limit (n * 10 + d) → ⊥) → HasDigits limit bytes n ((48 + d) ∷ others) → NumberStops limit bytes (length ((48 + d) ∷ others))
 digit_stops_of limit bytes others n d low lim le bad (inl h) =
     subst (λ l. NumberStops limit l (length ((48 + d) ∷ others))) h.1
-      (no_number limit ((48 + d) ∷ others) low lim (λ x y. bad (omega (arith, h.0, x), omega (arith, h.0))))
+    (no_number limit ((48 + d) ∷ others) low lim (λ x y. bad (omega (arith, h.0, x), omega (arith, h.0))))
 digit_stops_of limit bytes others n d low lim le bad (inr h) =
     record {
       before = decimal n;
@@ -178,8 +178,8 @@ zero_stops behind rest d le is =
       begins = record { value = pos 0; good = refl; is = sym zero_is };
       none = λ f. subst EndsNumber is (behind_zero f.value f.rest behind f.good f.ends f.is) (digit_is d le);
       longest = λ c cs later e f.
-        let same : c ≡ 48 + d = heads c (48 + d) cs rest (sym e ∙ is) in
-        behind_zero f.value f.rest (c ∷ later) f.good f.ends f.is (subst IsDigit (sym same) (digit_is d le));
+          let same : c ≡ 48 + d = heads c (48 + d) cs rest (sym e ∙ is) in
+          behind_zero f.value f.rest (c ∷ later) f.good f.ends f.is (subst IsDigit (sym same) (digit_is d le));
     }
 
 pub zero_takes : (behind : List ℕ) → EndsNumber behind → Takes Ended IsZero signed_decimal (48 ∷ behind) (pos 0) behind
@@ -205,12 +205,12 @@ behind_minus x f = cases f.value f.rest f.good f.ends f.is
 pub minus_stops : (digits : List ℕ) (left : ℕ) → NumberStops (2 ^ 63) digits left → IntegerStops (45 ∷ digits) left
 minus_stops digits left s =
     stops_in (Spelled (IsNumber (2 ^ 63)) decimal) (Front Ended (IsNumber (2 ^ 63)) decimal) (Spelled (FitsSigned w64) signed_decimal) (Front Ended (FitsSigned w64) signed_decimal) (45 ∷ []) digits left
-      (λ x h.
-        let good = h.good in
-        let is : h.value ≡ suc (h.value - 1) = omega (arith, good.0) in
-        ([], record { value = negsuc (h.value - 1); good = omega (arith, good.0, good.1); is = ap (λ l. 45 ∷ l) (append-nil x ∙ h.is ∙ ap decimal is) }))
-      (λ x e f. behind_minus x f)
-      s
+    (λ x h.
+    let good = h.good in
+    let is : h.value ≡ suc (h.value - 1) = omega (arith, good.0) in
+    ([], record { value = negsuc (h.value - 1); good = omega (arith, good.0, good.1); is = ap (λ l. 45 ∷ l) (append-nil x ∙ h.is ∙ ap decimal is) }))
+    (λ x e f. behind_minus x f)
+    s
 
 -- an integer that begins with a 0, and one that begins with neither a 0 nor a minus
 integer_first : (x : List ℕ) → Front Ended (FitsSigned w64) signed_decimal x → (first x ≡ Some 45 → ⊥) → Front Ended IsZero signed_decimal x ⊎ Front Ended (IsNumber (2 ^ 63 - 1)) decimal x
@@ -239,9 +239,9 @@ two_firsts x a b other e f = other (ap (λ o. unwrap_or o 0) (sym e ∙ f))
 pub zero_integer_stops : (behind : List ℕ) (left : ℕ) → ZeroStops (48 ∷ behind) left → IntegerStops (48 ∷ behind) left
 zero_integer_stops behind left s =
     stops_as (Spelled IsZero signed_decimal) (Front Ended IsZero signed_decimal) (Spelled (FitsSigned w64) signed_decimal) (Front Ended (FitsSigned w64) signed_decimal) (48 ∷ behind) left
-      (λ x h. ([], record { value = h.value; good = subst (FitsSigned w64) (sym h.good) (omega arith); is = append-nil x ∙ h.is }))
-      (λ x e f. elim (integer_first x f (λ m. two_firsts x 48 45 (λ i. omega (arith, i)) e m)) [ inl z ↦ z | inr n ↦ absurd (number_no_zero x n e) ])
-      s
+    (λ x h. ([], record { value = h.value; good = subst (FitsSigned w64) (sym h.good) (omega arith); is = append-nil x ∙ h.is }))
+    (λ x e f. elim (integer_first x f (λ m. two_firsts x 48 45 (λ i. omega (arith, i)) e m)) [ inl z ↦ z | inr n ↦ absurd (number_no_zero x n e) ])
+    s
 
 pub zero_integer_takes : (behind rest : List ℕ) (z : ℤ) → Takes Ended IsZero signed_decimal (48 ∷ behind) z rest → Takes Ended (FitsSigned w64) signed_decimal (48 ∷ behind) z rest
 zero_integer_takes behind rest z t = record { good = subst (FitsSigned w64) (sym t.good) (omega arith); ends = t.ends; is = t.is }
@@ -249,9 +249,9 @@ zero_integer_takes behind rest z t = record { good = subst (FitsSigned w64) (sym
 pub plain_stops : (text : List ℕ) (left : ℕ) → (first text ≡ Some 45 → ⊥) → (first text ≡ Some 48 → ⊥) → NumberStops (2 ^ 63 - 1) text left → IntegerStops text left
 plain_stops text left no_sign no_zero s =
     stops_as (Spelled (IsNumber (2 ^ 63 - 1)) decimal) (Front Ended (IsNumber (2 ^ 63 - 1)) decimal) (Spelled (FitsSigned w64) signed_decimal) (Front Ended (FitsSigned w64) signed_decimal) text left
-      (λ x h. let good = h.good in ([], record { value = pos h.value; good = omega (arith, good.1); is = append-nil x ∙ h.is }))
-      (λ x e f. elim (integer_first x f (λ m. no_sign (sym e ∙ m))) [ inl z ↦ absurd (no_zero (sym e ∙ zero_first x z)) | inr n ↦ n ])
-      s
+    (λ x h. let good = h.good in ([], record { value = pos h.value; good = omega (arith, good.1); is = append-nil x ∙ h.is }))
+    (λ x e f. elim (integer_first x f (λ m. no_sign (sym e ∙ m))) [ inl z ↦ absurd (no_zero (sym e ∙ zero_first x z)) | inr n ↦ n ])
+    s
 
 pub plain_takes : (text rest : List ℕ) (n : ℕ) → Takes Ended (IsNumber (2 ^ 63 - 1)) decimal text n rest → Takes Ended (FitsSigned w64) signed_decimal text (pos n) rest
 plain_takes text rest n t = let good = t.good in record { good = omega (arith, good.1); ends = t.ends; is = t.is }
@@ -261,9 +261,9 @@ plain_takes text rest n t = let good = t.good in record { good = omega (arith, g
 pub obj_stops : (text : List ℕ) (left : ℕ) → NumberStops 65535 text left → Stops (Spelled IsObj decimal) (Front Ended IsObj decimal) text left
 obj_stops text left s =
     stops_as (Spelled (IsNumber 65535) decimal) (Front Ended (IsNumber 65535) decimal) (Spelled IsObj decimal) (Front Ended IsObj decimal) text left
-      (λ x h. let good = h.good in ([], record { value = h.value; good = (good.0, omega (arith, good.1)); is = append-nil x ∙ h.is }))
-      (λ x e f. let good = f.good in record { value = f.value; rest = f.rest; good = (good.0, omega (arith, good.1)); ends = f.ends; is = f.is })
-      s
+    (λ x h. let good = h.good in ([], record { value = h.value; good = (good.0, omega (arith, good.1)); is = append-nil x ∙ h.is }))
+    (λ x e f. let good = f.good in record { value = f.value; rest = f.rest; good = (good.0, omega (arith, good.1)); ends = f.ends; is = f.is })
+    s
 
 -- ---- what is refused
 
@@ -295,21 +295,21 @@ end_stops Good small all rest n t some =
       more = [];
       begins = record { value = n; good = t.good; is = append-nil (decimal n) };
       none = λ h.
-        let p = decimal_apart n h.value rest [] (small n t.good) (small h.value h.good) t.ends tt (sym t.is ∙ h.is ∙ sym (append-nil (decimal h.value))) in
-        omega (arith, some, ap length p.1);
+          let p = decimal_apart n h.value rest [] (small n t.good) (small h.value h.good) t.ends tt (sym t.is ∙ h.is ∙ sym (append-nil (decimal h.value))) in
+          omega (arith, some, ap length p.1);
       longest = λ c cs later is h.
-        let p = decimal_apart n h.value (c ∷ later) [] (small n t.good) (small h.value h.good) (subst EndsNumber is t.ends) tt (h.is ∙ sym (append-nil (decimal h.value))) in
-        omega (arith, ap length p.1);
+          let p = decimal_apart n h.value (c ∷ later) [] (small n t.good) (small h.value h.good) (subst EndsNumber is t.ends) tt (h.is ∙ sym (append-nil (decimal h.value))) in
+          omega (arith, ap length p.1);
     }
 
 pub alone_refused : (Good : ℕ → Type 0) (all : List ℕ) (fault : Fault) → Refuses (Spelled Good decimal) (Front Ended Good decimal) all fault → Refuses (Spelled Good decimal) (Spelled Good decimal) all fault
 alone_refused Good all fault r =
     refuses _ _ _ _ all all fault
-      (λ left s. stops_as (Spelled Good decimal) (Front Ended Good decimal) (Spelled Good decimal) (Spelled Good decimal) all left
-        (λ x h. ([], record { value = h.value; good = h.good; is = append-nil x ∙ h.is }))
-        (λ x e h. record { value = h.value; rest = []; good = h.good; ends = tt; is = h.is ∙ sym (append-nil (decimal h.value)) })
-        s)
-      r
+    (λ left s. stops_as (Spelled Good decimal) (Front Ended Good decimal) (Spelled Good decimal) (Spelled Good decimal) all left
+    (λ x h. ([], record { value = h.value; good = h.good; is = append-nil x ∙ h.is }))
+    (λ x e h. record { value = h.value; rest = []; good = h.good; ends = tt; is = h.is ∙ sym (append-nil (decimal h.value)) })
+    s)
+    r
 
 pub column_small : (n : ℕ) → IsColumn n → n < 2 ^ 64
 column_small n h = omega (arith, h.1)

@@ -34,18 +34,18 @@ none_in false = refl
 number_table_stops : (grouped : Bool) (text : List ℕ) (left : ℕ) → Stops (Spelled IsObj decimal) (Front Ended IsObj decimal) text left → TableStops grouped text left
 number_table_stops grouped text left s =
     stops_as (Spelled IsObj decimal) (Front Ended IsObj decimal) (Spelled (IsTable grouped) table_tail_bytes) (Spelled (IsTable grouped) table_tail_bytes) text left
-      (λ x h. ([], record { value = (h.value, ([], None)); good = (h.good, (tt, none_in grouped)); is = ap (λ l. l ++ []) h.is }))
-      (λ x e h. record { value = h.value.0; rest = tail_bytes where_word h.value.1; good = h.good.0; ends = tail_ends where_word h.value.1 (inl refl); is = h.is })
-      s
+    (λ x h. ([], record { value = (h.value, ([], None)); good = (h.good, (tt, none_in grouped)); is = ap (λ l. l ++ []) h.is }))
+    (λ x e h. record { value = h.value.0; rest = tail_bytes where_word h.value.1; good = h.good.0; ends = tail_ends where_word h.value.1 (inl refl); is = h.is })
+    s
 
 tail_table_stops : (grouped : Bool) (n : ℕ) (text : List ℕ) (left : ℕ) → IsObj n → EndsNumber text → Stops (Spelled (IsTail grouped) (tail_bytes where_word)) (Spelled (IsTail grouped) (tail_bytes where_word)) text left → TableStops grouped (decimal n ++ text) left
 tail_table_stops grouped n text left good ends s =
     stops_in (Spelled (IsTail grouped) (tail_bytes where_word)) (Spelled (IsTail grouped) (tail_bytes where_word)) (Spelled (IsTable grouped) table_tail_bytes) (Spelled (IsTable grouped) table_tail_bytes) (decimal n) text left
-      (λ x h. ([], record { value = (n, h.value); good = (good, h.good); is = ap (λ l. decimal n ++ l) (append-nil x ∙ h.is) }))
-      (λ x e h.
-        let p = decimal_apart n h.value.0 x (tail_bytes where_word h.value.1) (obj_small n good) (obj_small h.value.0 h.good.0) (ends_same x text e ends) (tail_ends where_word h.value.1 (inl refl)) h.is in
-        record { value = h.value.1; good = h.good.1; is = p.1 })
-      s
+    (λ x h. ([], record { value = (n, h.value); good = (good, h.good); is = ap (λ l. decimal n ++ l) (append-nil x ∙ h.is) }))
+    (λ x e h.
+    let p = decimal_apart n h.value.0 x (tail_bytes where_word h.value.1) (obj_small n good) (obj_small h.value.0 h.good.0) (ends_same x text e ends) (tail_ends where_word h.value.1 (inl refl)) h.is in
+    record { value = h.value.1; good = h.good.1; is = p.1 })
+    s
 
 abbrev pub TableRefused : Bool → List ℕ → Fault → Type 0
 TableRefused grouped all fault = Refuses (Spelled (IsTable grouped) table_tail_bytes) (Spelled (IsTable grouped) table_tail_bytes) all fault
@@ -97,16 +97,16 @@ one_table_good grouped = ((omega arith, omega arith), (tt, none_in grouped))
 star_stops : (text : List ℕ) (left : ℕ) → Stops (λ x. x ≡ codes "* FROM t") (Begins (codes "* FROM t")) text left → RowsStops text left
 star_stops text left s =
     stops_as (λ x. x ≡ codes "* FROM t") (Begins (codes "* FROM t")) (Spelled AsksRows query_bytes) (Spelled AsksRows query_bytes) text left
-      (λ x h. (table_tail_bytes one_table, record { value = record { obj = 1; what = All; conditions = []; group = None }; good = (rows_good 1 ([], None) (one_table_good false), refl); is = ap (λ l. l ++ table_tail_bytes one_table) h }))
-      (λ x e h. (table_tail_bytes (behind_what h.value), h.is ∙ rows_laid h.value h.good))
-      s
+    (λ x h. (table_tail_bytes one_table, record { value = record { obj = 1; what = All; conditions = []; group = None }; good = (rows_good 1 ([], None) (one_table_good false), refl); is = ap (λ l. l ++ table_tail_bytes one_table) h }))
+    (λ x e h. (table_tail_bytes (behind_what h.value), h.is ∙ rows_laid h.value h.good))
+    s
 
 rows_table_stops : (text : List ℕ) (left : ℕ) → TableStops false text left → RowsStops (codes "* FROM t" ++ text) left
 rows_table_stops text left s =
     stops_in (Spelled (IsTable false) table_tail_bytes) (Spelled (IsTable false) table_tail_bytes) (Spelled AsksRows query_bytes) (Spelled AsksRows query_bytes) (codes "* FROM t") text left
-      (λ x h. ([], record { value = record { obj = h.value.0; what = All; conditions = h.value.1.0; group = h.value.1.1 }; good = (rows_good h.value.0 h.value.1 h.good, refl); is = ap (λ l. codes "* FROM t" ++ l) (append-nil x ∙ h.is) }))
-      (λ x e h. record { value = behind_what h.value; good = table_of_rows h.value h.good; is = append_cancel_left (codes "* FROM t") x (table_tail_bytes (behind_what h.value)) (h.is ∙ rows_laid h.value h.good) })
-      s
+    (λ x h. ([], record { value = record { obj = h.value.0; what = All; conditions = h.value.1.0; group = h.value.1.1 }; good = (rows_good h.value.0 h.value.1 h.good, refl); is = ap (λ l. codes "* FROM t" ++ l) (append-nil x ∙ h.is) }))
+    (λ x e h. record { value = behind_what h.value; good = table_of_rows h.value h.good; is = append_cancel_left (codes "* FROM t") x (table_tail_bytes (behind_what h.value)) (h.is ∙ rows_laid h.value h.good) })
+    s
 
 -- a query of aggregates, by these
 record OfSums (x : List ℕ) : Type 0 where
@@ -122,6 +122,7 @@ of_sums x h = sums_cases h.value.what refl
     group_in : (g : Option ℕ) → IsGroup g → IsGroupIn true g
     group_in None h = h
     group_in (Some c) h = h
+
     sums_cases : (w : What) → h.value.what ≡ w → OfSums x
     sums_cases All e = absurd (h.good.1 e)
     sums_cases (Aggregates listed) e =
@@ -148,9 +149,9 @@ SumsStops text left = Stops (Spelled AsksSums query_bytes) (Spelled AsksSums que
 asked_sums_stops : (text : List ℕ) (left : ℕ) → Stops (Spelled AreAsked asked_bytes) (Front Anything AreAsked asked_bytes) text left → SumsStops text left
 asked_sums_stops text left s =
     stops_as (Spelled AreAsked asked_bytes) (Front Anything AreAsked asked_bytes) (Spelled AsksSums query_bytes) (Spelled AsksSums query_bytes) text left
-      (λ x h. (table_tail_bytes one_table, sums_spelled h.value 1 ([], None) (x ++ table_tail_bytes one_table) h.good (one_table_good true) (ap (λ l. l ++ table_tail_bytes one_table) h.is)))
-      (λ x e h. let o = of_sums x h in record { value = o.asked; rest = table_tail_bytes o.table; good = o.asked_good; ends = tt; is = o.is })
-      s
+    (λ x h. (table_tail_bytes one_table, sums_spelled h.value 1 ([], None) (x ++ table_tail_bytes one_table) h.good (one_table_good true) (ap (λ l. l ++ table_tail_bytes one_table) h.is)))
+    (λ x e h. let o = of_sums x h in record { value = o.asked; rest = table_tail_bytes o.table; good = o.asked_good; ends = tt; is = o.is })
+    s
 
 asked_apart : (a b : List Aggregate) (x y : List ℕ) → AreAsked a → AreAsked b → asked_bytes a ++ x ≡ asked_bytes b ++ y → x ≡ y
 asked_apart a b x y h k e =
@@ -160,9 +161,9 @@ asked_apart a b x y h k e =
 sums_table_stops : (listed : List Aggregate) (text : List ℕ) (left : ℕ) → AreAsked listed → TableStops true text left → SumsStops (asked_bytes listed ++ text) left
 sums_table_stops listed text left asked s =
     stops_in (Spelled (IsTable true) table_tail_bytes) (Spelled (IsTable true) table_tail_bytes) (Spelled AsksSums query_bytes) (Spelled AsksSums query_bytes) (asked_bytes listed) text left
-      (λ x h. ([], sums_spelled listed h.value.0 h.value.1 (asked_bytes listed ++ (x ++ [])) asked h.good (ap (λ l. asked_bytes listed ++ l) (append-nil x ∙ h.is))))
-      (λ x e h. let o = of_sums (asked_bytes listed ++ x) h in record { value = o.table; good = o.table_good; is = asked_apart listed o.asked x (table_tail_bytes o.table) asked o.asked_good o.is })
-      s
+    (λ x h. ([], sums_spelled listed h.value.0 h.value.1 (asked_bytes listed ++ (x ++ [])) asked h.good (ap (λ l. asked_bytes listed ++ l) (append-nil x ∙ h.is))))
+    (λ x e h. let o = of_sums (asked_bytes listed ++ x) h in record { value = o.table; good = o.table_good; is = asked_apart listed o.asked x (table_tail_bytes o.table) asked o.asked_good o.is })
+    s
 
 -- ---- what a call gave
 
@@ -209,20 +210,20 @@ sums_of_query x other h =
 rows_refused : (all rest : List ℕ) (fault : Fault) → all ≡ 42 ∷ rest → Refuses (Spelled AsksRows query_bytes) (Spelled AsksRows query_bytes) all fault → Refuses (Spelled IsSelect query_bytes) (Spelled IsSelect query_bytes) all fault
 rows_refused all rest fault is r =
     refuses _ _ _ _ all all fault
-      (λ left s. stops_as (Spelled AsksRows query_bytes) (Spelled AsksRows query_bytes) (Spelled IsSelect query_bytes) (Spelled IsSelect query_bytes) all left
-        (λ x h. ([], record { value = h.value; good = h.good.0; is = append-nil x ∙ h.is }))
-        (λ x e h. rows_of_query x (e ∙ ap first is) h)
-        s)
-      r
+    (λ left s. stops_as (Spelled AsksRows query_bytes) (Spelled AsksRows query_bytes) (Spelled IsSelect query_bytes) (Spelled IsSelect query_bytes) all left
+    (λ x h. ([], record { value = h.value; good = h.good.0; is = append-nil x ∙ h.is }))
+    (λ x e h. rows_of_query x (e ∙ ap first is) h)
+    s)
+    r
 
 sums_refused : (all : List ℕ) (fault : Fault) → (first all ≡ Some 42 → ⊥) → Refuses (Spelled AsksSums query_bytes) (Spelled AsksSums query_bytes) all fault → Refuses (Spelled IsSelect query_bytes) (Spelled IsSelect query_bytes) all fault
 sums_refused all fault other r =
     refuses _ _ _ _ all all fault
-      (λ left s. stops_as (Spelled AsksSums query_bytes) (Spelled AsksSums query_bytes) (Spelled IsSelect query_bytes) (Spelled IsSelect query_bytes) all left
-        (λ x h. ([], record { value = h.value; good = h.good.0; is = append-nil x ∙ h.is }))
-        (λ x e h. sums_of_query x (λ q. other (sym e ∙ q)) h)
-        s)
-      r
+    (λ left s. stops_as (Spelled AsksSums query_bytes) (Spelled AsksSums query_bytes) (Spelled IsSelect query_bytes) (Spelled IsSelect query_bytes) all left
+    (λ x h. ([], record { value = h.value; good = h.good.0; is = append-nil x ∙ h.is }))
+    (λ x e h. sums_of_query x (λ q. other (sym e ∙ q)) h)
+    s)
+    r
 
 -- ---- the spelling that a command has
 
@@ -234,6 +235,7 @@ tests_are word c cs = ap (λ l. word ++ l) (conditions_are c cs)
       where
         regroup_one : (k d b o l r : List ℕ) → k ++ ((d ++ ((b ++ o ++ b) ++ l)) ++ r) ≡ ((k ++ d) ++ b ++ o ++ b ++ l) ++ r
         regroup_one k d b o l r = simp append_assoc
+
     conditions_are : (c : Condition) (cs : List Condition) → codes "c" ++ (test_bytes c ++ tests_bytes (codes " AND c") cs) ≡ conditions_bytes (c ∷ cs)
     conditions_are c [] = one_is c [] ∙ append-nil (condition_bytes c)
     conditions_are c (d ∷ more) =

@@ -77,8 +77,9 @@ pub stops_either : (A K B L : List ℕ → Type 0) (text : List ℕ) (m n : ℕ)
 stops_either A K B L text m n s t =
     let P : ℕ → Type 0 = λ l. Stops (λ x. A x ⊎ B x) (λ x. K x ⊎ L x) text l in
     elim (cases_lt m n) [
-      inl lt ↦ (let is : m ≡ min m n = omega arith in subst P is (stops_later A K B L text m n (omega arith) s t))
-    | inr le ↦ (let is : n ≡ min m n = omega arith in subst P is (stops_as (λ x. B x ⊎ A x) (λ x. L x ⊎ K x) (λ x. A x ⊎ B x) (λ x. K x ⊎ L x) text n (λ x h. ([], subst (λ l. A l ⊎ B l) (sym (append-nil x)) (swapped h))) (λ x e h. swapped h) (stops_later B L A K text n m le t s))) ]
+      | inl lt ↦ (let is : m ≡ min m n = omega arith in subst P is (stops_later A K B L text m n (omega arith) s t))
+      | inr le ↦ (let is : n ≡ min m n = omega arith in subst P is (stops_as (λ x. B x ⊎ A x) (λ x. L x ⊎ K x) (λ x. A x ⊎ B x) (λ x. K x ⊎ L x) text n (λ x h. ([], subst (λ l. A l ⊎ B l) (sym (append-nil x)) (swapped h))) (λ x e h. swapped h) (stops_later B L A K text n m le t s)))
+    ]
 
 -- the same where memory may run out
 pub refuses : (Good May All Whole : List ℕ → Type 0) (text all : List ℕ) (fault : Fault) → ((left : ℕ) → Stops Good May text left → Stops All Whole all left) → Refuses Good May text fault → Refuses All Whole all fault

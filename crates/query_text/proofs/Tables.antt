@@ -44,9 +44,9 @@ table_takes now Good spell words table text t rest e = means_takes now Good spel
 pub table_stops : {W T : Type 0} (now : W → List ℕ) (Good : T → Type 0) (spell : T → List ℕ) (words : List (W × T)) (table : IsTableOf now Good spell words) (text : List ℕ) (left : ℕ) → found now words text (length text) ≡ Err left → Stops (Spelled Good spell) (Front Anything Good spell) text left
 table_stops now Good spell words table text left e =
     stops_as (λ x. (x ≡ []) ⊎ IsWord now words x) (IsFront now words) (Spelled Good spell) (Front Anything Good spell) text left
-      (λ x h. begun_spelled now Good spell words table x h)
-      (λ x same f. in_front now Good spell words f.value x f.rest table.sound (table.whole f.value f.good) f.is)
-      (words_stop now words text left e)
+    (λ x h. begun_spelled now Good spell words table x h)
+    (λ x same f. in_front now Good spell words f.value x f.rest table.sound (table.whole f.value f.good) f.is)
+    (words_stop now words text left e)
 
 pub table_reads : {W T Y : Type 0} (now : W → List ℕ) (Good : T → Type 0) (spell : T → List ℕ) (words : List (W × T)) (table : IsTableOf now Good spell words) (meaning : Y → T) (rest : Y → List ℕ) (text : List ℕ) (r : Result Y Fault) → Finds now words meaning rest text r → Reads meaning rest Anything Good spell text r
 table_reads now Good spell words table meaning rest text (Ok y) h = table_takes now Good spell words table text (meaning y) (rest y) h

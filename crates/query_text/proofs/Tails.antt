@@ -29,8 +29,8 @@ both_meant a b Group = inr (inl refl)
 pub both_reads : {W Y : Type 0} (now : W → List ℕ) (a b : W) → now b ≡ codes " GROUP BY c" → (meaning : Y → Next) (rest : Y → List ℕ) (text : List ℕ) (r : Result Y Fault) → Finds now ((a, Test) ∷ (b, Group) ∷ []) meaning rest text r → Reads meaning rest Anything (IsNext true) (next_bytes (now a)) text r
 both_reads now a b hb meaning rest text r h =
     table_reads now (IsNext true) (next_bytes (now a)) ((a, Test) ∷ (b, Group) ∷ [])
-      (record { sound = ((tt, refl), ((refl, hb), tt)); whole = λ t good. both_meant a b t; one = Test; one_good = tt })
-      meaning rest text r h
+    (record { sound = ((tt, refl), ((refl, hb), tt)); whole = λ t good. both_meant a b t; one = Test; one_good = tt })
+    meaning rest text r h
 
 one_meant : {W : Type 0} (a : W) (t : Next) → IsNext false t → IsMeant ((a, Test) ∷ []) t
 one_meant a Test good = inl refl
@@ -39,8 +39,8 @@ one_meant a Group good = absurd cc
 pub one_reads : {W Y : Type 0} (now : W → List ℕ) (a : W) (meaning : Y → Next) (rest : Y → List ℕ) (text : List ℕ) (r : Result Y Fault) → Finds now ((a, Test) ∷ []) meaning rest text r → Reads meaning rest Anything (IsNext false) (next_bytes (now a)) text r
 one_reads now a meaning rest text r h =
     table_reads now (IsNext false) (next_bytes (now a)) ((a, Test) ∷ [])
-      (record { sound = ((tt, refl), tt); whole = λ t good. one_meant a t good; one = Test; one_good = tt })
-      meaning rest text r h
+    (record { sound = ((tt, refl), tt); whole = λ t good. one_meant a t good; one = Test; one_good = tt })
+    meaning rest text r h
 
 -- ---- tests apart
 
@@ -131,31 +131,31 @@ alone false c good = ((good, tt), refl)
 test_tail_stops : (grouped : Bool) (word text : List ℕ) (left : ℕ) → IsTestWord word → Stops (Spelled IsCondition test_bytes) (Front EndsTest IsCondition test_bytes) text left → TailStops grouped word (word ++ text) left
 test_tail_stops grouped word text left w s =
     stops_in (Spelled IsCondition test_bytes) (Front EndsTest IsCondition test_bytes) (Spelled (IsTail grouped) (tail_bytes word)) (Spelled (IsTail grouped) (tail_bytes word)) word text left
-      (λ x h. ([], record { value = (h.value ∷ [], None); good = alone grouped h.value h.good; is = ap (λ l. word ++ (l ++ [])) h.is ∙ sym (tail_laid word h.value [] None) }))
-      (λ x e h.
-        let b = begins_test grouped word x w h in
-        record { value = b.test; rest = tail_bytes and_word (b.later, b.group); good = b.good; ends = ends_literal b.test _ (tail_ends and_word (b.later, b.group) (inr refl)); is = b.is })
-      s
+    (λ x h. ([], record { value = (h.value ∷ [], None); good = alone grouped h.value h.good; is = ap (λ l. word ++ (l ++ [])) h.is ∙ sym (tail_laid word h.value [] None) }))
+    (λ x e h.
+    let b = begins_test grouped word x w h in
+    record { value = b.test; rest = tail_bytes and_word (b.later, b.group); good = b.good; ends = ends_literal b.test _ (tail_ends and_word (b.later, b.group) (inr refl)); is = b.is })
+    s
 
 -- behind a test
 later_tail_stops : (grouped : Bool) (word text : List ℕ) (c : Condition) (left : ℕ) → IsTestWord word → IsCondition c → EndsTest c text → TailStops grouped and_word text left → TailStops grouped word ((word ++ test_bytes c) ++ text) left
 later_tail_stops grouped word text c left w good ends s =
     stops_in (Spelled (IsTail grouped) (tail_bytes and_word)) (Spelled (IsTail grouped) (tail_bytes and_word)) (Spelled (IsTail grouped) (tail_bytes word)) (Spelled (IsTail grouped) (tail_bytes word)) (word ++ test_bytes c) text left
-      (λ x h. ([], record { value = (c ∷ h.value.0, h.value.1); good = ((good, h.good.0), h.good.1); is = ap (λ l. (word ++ test_bytes c) ++ l) (append-nil x ∙ h.is) ∙ append_assoc word (test_bytes c) (tail_bytes and_word h.value) ∙ sym (tail_laid word c h.value.0 h.value.1) }))
-      (λ x e h.
-        let b = begins_test grouped word (test_bytes c ++ x) w (subst (Spelled (IsTail grouped) (tail_bytes word)) (append_assoc word (test_bytes c) x) h) in
-        let y = tail_bytes and_word (b.later, b.group) in
-        let p = test_apart c b.test x y good b.good (literal_same c.literal x text e ends) (ends_literal b.test y (tail_ends and_word (b.later, b.group) (inr refl))) b.is in
-        record { value = (b.later, b.group); good = b.later_good; is = p.1 })
-      s
+    (λ x h. ([], record { value = (c ∷ h.value.0, h.value.1); good = ((good, h.good.0), h.good.1); is = ap (λ l. (word ++ test_bytes c) ++ l) (append-nil x ∙ h.is) ∙ append_assoc word (test_bytes c) (tail_bytes and_word h.value) ∙ sym (tail_laid word c h.value.0 h.value.1) }))
+    (λ x e h.
+    let b = begins_test grouped word (test_bytes c ++ x) w (subst (Spelled (IsTail grouped) (tail_bytes word)) (append_assoc word (test_bytes c) x) h) in
+    let y = tail_bytes and_word (b.later, b.group) in
+    let p = test_apart c b.test x y good b.good (literal_same c.literal x text e ends) (ends_literal b.test y (tail_ends and_word (b.later, b.group) (inr refl))) b.is in
+    record { value = (b.later, b.group); good = b.later_good; is = p.1 })
+    s
 
 -- behind the word of the group
 group_tail_stops : (word text : List ℕ) (left : ℕ) → IsTestWord word → Stops (Spelled IsColumn decimal) (Spelled IsColumn decimal) text left → TailStops true word (codes " GROUP BY c" ++ text) left
 group_tail_stops word text left w s =
     stops_in (Spelled IsColumn decimal) (Spelled IsColumn decimal) (Spelled (IsTail true) (tail_bytes word)) (Spelled (IsTail true) (tail_bytes word)) (codes " GROUP BY c") text left
-      (λ x h. ([], record { value = ([], Some h.value); good = (tt, h.good); is = ap (λ l. codes " GROUP BY c" ++ l) (append-nil x ∙ h.is) }))
-      (λ x e h. of_group x h.value.0 h.value.1 h.good h.is)
-      s
+    (λ x h. ([], record { value = ([], Some h.value); good = (tt, h.good); is = ap (λ l. codes " GROUP BY c" ++ l) (append-nil x ∙ h.is) }))
+    (λ x e h. of_group x h.value.0 h.value.1 h.good h.is)
+    s
   where
     of_group : (x : List ℕ) (cs : List Condition) (g : Option ℕ) → IsTail true (cs, g) → codes " GROUP BY c" ++ x ≡ tail_bytes word (cs, g) → Spelled IsColumn decimal x
     of_group x [] None good e = absurd cc
@@ -174,14 +174,15 @@ test_good = ((omega arith, omega arith), omega arith, no_null_int (pos 0))
 next_tail_stops : (grouped : Bool) (word text : List ℕ) (left : ℕ) → 1 ≤ length text → Stops (Spelled (IsNext grouped) (next_bytes word)) (Front Anything (IsNext grouped) (next_bytes word)) text left → TailStops grouped word text left
 next_tail_stops grouped word text left some s =
     stops_as (Spelled (IsNext grouped) (next_bytes word)) (Front Anything (IsNext grouped) (next_bytes word)) (Spelled (IsTail grouped) (tail_bytes word)) (Spelled (IsTail grouped) (tail_bytes word)) text left
-      (λ x h. goes_on x grouped h.value h.good h.is)
-      (λ x e h. of_next x grouped h.value.0 h.value.1 e h.good h.is)
-      s
+    (λ x h. goes_on x grouped h.value h.good h.is)
+    (λ x e h. of_next x grouped h.value.0 h.value.1 e h.good h.is)
+    s
   where
     goes_on : (x : List ℕ) (grouped : Bool) (n : Next) → IsNext grouped n → x ≡ next_bytes word n → (k : List ℕ) × Spelled (IsTail grouped) (tail_bytes word) (x ++ k)
     goes_on x grouped Test good e = (test_bytes test ++ [], record { value = (test ∷ [], None); good = alone grouped test test_good; is = ap (λ l. l ++ (test_bytes test ++ [])) e ∙ sym (tail_laid word test [] None) })
     goes_on x true Group good e = (decimal 1, record { value = ([], Some 1); good = (tt, (omega arith, omega arith)); is = ap (λ l. l ++ decimal 1) e })
     goes_on x false Group good e = absurd cc
+
     of_next : (x : List ℕ) (grouped : Bool) (cs : List Condition) (g : Option ℕ) → first x ≡ first text → IsTail grouped (cs, g) → x ≡ tail_bytes word (cs, g) → Front Anything (IsNext grouped) (next_bytes word) x
     of_next x grouped [] None same good e = absurd (empty_first text some (sym (ap first e) ∙ same))
       where
@@ -210,10 +211,10 @@ more_tests grouped all tests word text behind rest c h t u =
       next = inr refl;
       stops = λ left s. h.stops left (subst (λ l. TailStops grouped word l left) (sym is) (later_tail_stops grouped word rest c left h.next u.good u.ends s));
       gives = λ tail good e.
-        let whole : text ≡ tail_bytes word (c ∷ tail.0, tail.1) = is ∙ ap (λ l. (word ++ test_bytes c) ++ l) e ∙ append_assoc word (test_bytes c) (tail_bytes and_word tail) ∙ sym (tail_laid word c tail.0 tail.1) in
-        let g = h.gives (c ∷ tail.0, tail.1) ((u.good, good.0), good.1) whole in
-        let same : (tests ++ c ∷ []) ++ tail.0 ≡ tests ++ c ∷ tail.0 = append_assoc tests (c ∷ []) tail.0 in
-        subst (λ l. IsTail grouped (l, tail.1) × (all ≡ tail_bytes (codes " WHERE c") (l, tail.1))) (sym same) g;
+          let whole : text ≡ tail_bytes word (c ∷ tail.0, tail.1) = is ∙ ap (λ l. (word ++ test_bytes c) ++ l) e ∙ append_assoc word (test_bytes c) (tail_bytes and_word tail) ∙ sym (tail_laid word c tail.0 tail.1) in
+          let g = h.gives (c ∷ tail.0, tail.1) ((u.good, good.0), good.1) whole in
+          let same : (tests ++ c ∷ []) ++ tail.0 ≡ tests ++ c ∷ tail.0 = append_assoc tests (c ∷ []) tail.0 in
+          subst (λ l. IsTail grouped (l, tail.1) × (all ≡ tail_bytes (codes " WHERE c") (l, tail.1))) (sym same) g;
     }
 
 abbrev pub TailRefused : Bool → List ℕ → Fault → Type 0

@@ -24,9 +24,9 @@ stops_cons : (w c : ℕ) (word text : List ℕ) (left : ℕ) (same : Bool) → e
 stops_cons w c word text left true t e later =
     let is : c ≡ w = eqb-true c w t in
     stops_in (λ x. x ≡ word) (Begins word) (λ x. x ≡ w ∷ word) (Begins (w ∷ word)) (c ∷ []) text left
-      (λ x h. ([], ap₂ (λ d ds. d ∷ ds) is (append-nil x ∙ h)))
-      (λ x f h. (h.0, ap (drop 1) h.1))
-      (later e)
+    (λ x h. ([], ap₂ (λ d ds. d ∷ ds) is (append-nil x ∙ h)))
+    (λ x f h. (h.0, ap (drop 1) h.1))
+    (later e)
 stops_cons w c word text left false t e later =
     let other : c ≡ w → ⊥ = eqb-false c w t in
     record {
@@ -98,21 +98,21 @@ right_of (inr (inr c)) = inr c
 found_stops : {W T : Type 0} (now : W → List ℕ) (words : List (W × T)) (text : List ℕ) (left out : ℕ) (A K : List ℕ → Type 0) → Stops A K text left → found now words text left ≡ Err out → Stops (λ x. A x ⊎ IsWord now words x) (λ x. K x ⊎ IsFront now words x) text out
 found_stops {W} {T} now [] text left out A K s e =
     stops_as A K (λ x. A x ⊎ ⊥) (λ x. K x ⊎ ⊥) text out
-      (λ x h. ([], inl (subst A (sym (append-nil x)) h)))
-      (λ x f h. elim h [ inl k ↦ k | inr n ↦ absurd n ])
-      (subst (λ n. Stops A K text n) (same_left {T = T × List ℕ} left out e) s)
+    (λ x h. ([], inl (subst A (sym (append-nil x)) h)))
+    (λ x f h. elim h [ inl k ↦ k | inr n ↦ absurd n ])
+    (subst (λ n. Stops A K text n) (same_left {T = T × List ℕ} left out e) s)
 found_stops {W} {T} now (e ∷ words) text left out A K s h =
     stop_cases (strip (now e.0) text) refl h (λ behind one g. found_stops now words text (min left behind) out (λ x. A x ⊎ (x ≡ now e.0)) (λ x. K x ⊎ Begins (now e.0) x) one g)
   where
     stop_cases : (r : Result (List ℕ) ℕ) → strip (now e.0) text ≡ r → or_else e.1 r (λ behind. found now words text (min left behind)) ≡ Err out
-      → ((behind : ℕ) → Stops (λ x. A x ⊎ (x ≡ now e.0)) (λ x. K x ⊎ Begins (now e.0) x) text (min left behind) → found now words text (min left behind) ≡ Err out → Stops (λ x. (A x ⊎ (x ≡ now e.0)) ⊎ IsWord now words x) (λ x. (K x ⊎ Begins (now e.0) x) ⊎ IsFront now words x) text out)
-      → Stops (λ x. A x ⊎ IsWord now (e ∷ words) x) (λ x. K x ⊎ IsFront now (e ∷ words) x) text out
+        → ((behind : ℕ) → Stops (λ x. A x ⊎ (x ≡ now e.0)) (λ x. K x ⊎ Begins (now e.0) x) text (min left behind) → found now words text (min left behind) ≡ Err out → Stops (λ x. (A x ⊎ (x ≡ now e.0)) ⊎ IsWord now words x) (λ x. (K x ⊎ Begins (now e.0) x) ⊎ IsFront now words x) text out)
+        → Stops (λ x. A x ⊎ IsWord now (e ∷ words) x) (λ x. K x ⊎ IsFront now (e ∷ words) x) text out
     stop_cases (Ok x) q g later = absurd cc
     stop_cases (Err behind) q g later =
         stops_as (λ x. (A x ⊎ (x ≡ now e.0)) ⊎ IsWord now words x) (λ x. (K x ⊎ Begins (now e.0) x) ⊎ IsFront now words x) (λ x. A x ⊎ IsWord now (e ∷ words) x) (λ x. K x ⊎ IsFront now (e ∷ words) x) text out
-          (λ x i. ([], subst (λ l. A l ⊎ IsWord now (e ∷ words) l) (sym (append-nil x)) (left_of i)))
-          (λ x f i. right_of i)
-          (later behind (stops_either A K (λ x. x ≡ now e.0) (Begins (now e.0)) text left behind s (stops_word (now e.0) text behind q)) g)
+        (λ x i. ([], subst (λ l. A l ⊎ IsWord now (e ∷ words) l) (sym (append-nil x)) (left_of i)))
+        (λ x f i. right_of i)
+        (later behind (stops_either A K (λ x. x ≡ now e.0) (Begins (now e.0)) text left behind s (stops_word (now e.0) text behind q)) g)
 
 nothing_begun : (text : List ℕ) → Stops (λ x. x ≡ []) (λ x. ⊥) text (length text)
 nothing_begun text =
@@ -131,9 +131,9 @@ nothing_begun text =
 pub words_stop : {W T : Type 0} (now : W → List ℕ) (words : List (W × T)) (text : List ℕ) (out : ℕ) → found now words text (length text) ≡ Err out → Stops (λ x. (x ≡ []) ⊎ IsWord now words x) (IsFront now words) text out
 words_stop now words text out e =
     stops_as (λ x. (x ≡ []) ⊎ IsWord now words x) (λ x. ⊥ ⊎ IsFront now words x) (λ x. (x ≡ []) ⊎ IsWord now words x) (IsFront now words) text out
-      (λ x h. ([], subst (λ l. (l ≡ []) ⊎ IsWord now words l) (sym (append-nil x)) h))
-      (λ x f h. inr h)
-      (found_stops now words text (length text) out (λ x. x ≡ []) (λ x. ⊥) (nothing_begun text) e)
+    (λ x h. ([], subst (λ l. (l ≡ []) ⊎ IsWord now words l) (sym (append-nil x)) h))
+    (λ x f h. inr h)
+    (found_stops now words text (length text) out (λ x. x ≡ []) (λ x. ⊥) (nothing_begun text) e)
 
 -- ---- the loops
 

@@ -2,3 +2,4 @@ pub mod Stopping
 pub mod Words
 pub mod Parts
 pub mod Literals
+pub mod Listed

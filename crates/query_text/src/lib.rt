@@ -5,10 +5,14 @@
 mod aggregate;
 mod condition;
 mod fault;
+pub mod law;
 mod literal;
 mod number;
+pub mod print;
 pub mod read;
 pub mod refused;
 mod select;
 mod tail;
+#[cfg(test)]
+mod tests;
 mod word;

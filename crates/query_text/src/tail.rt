@@ -25,7 +25,10 @@ fn next_of<'a>(bytes: &'a [u8], test: &[u8], grouped: bool) -> Result<(Next, &'a
     ensures { Reads (λ x. x.0) (λ x. x.1.now) Anything (IsNext grouped) (next_bytes test.now) bytes.now result }
 {
     if grouped {
-        word_of(&[(test, Next::Test), (b" GROUP BY c".as_slice(), Next::Group)], bytes)
+        word_of(
+            &[(test, Next::Test), (b" GROUP BY c".as_slice(), Next::Group)],
+            bytes,
+        )
     } else {
         word_of(&[(test, Next::Test)], bytes)
     }
