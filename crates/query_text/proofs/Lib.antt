@@ -1,0 +1,12 @@
+pub mod Apart
+pub mod Stopping
+pub mod Words
+pub mod Tables
+pub mod Numbers
+pub mod Literals
+pub mod Conditions
+pub mod Tails
+pub mod Aggregates
+pub mod Selects
+pub mod Commands
+pub mod Printed

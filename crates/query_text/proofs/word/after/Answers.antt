@@ -1,0 +1,5 @@
+use Rattle.query_text.proofs.Words.{strip_short}
+use Rattle.query_text.proofs.word.after.Goals as goal
+
+pub returns-in_default : goal.returns-in_default
+returns-in_default c = strip_short c.args.word.now c.loop-expected.rest.now c.loop-expected.expected-index _ c.loop-expected-test.true c.in_default.len_below c.loop-expected.invariant
