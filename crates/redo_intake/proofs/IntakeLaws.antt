@@ -3,6 +3,7 @@ use Rattle.std.proofs.Common.{◌≡◌, ℕ, List, [], ◌∷◌, ◌++◌, len
 use Rattle.std.proofs.lemmas.List.{append_cancel_left}
 use Rattle.adg_base.specs.declared.log.LogEntry.{LogEntry}
 use Rattle.adg_base.specs.declared.vector.RedoRecord.{RedoRecord}
+use Rattle.adg_model.specs.declared.delivery.RedoPiece.{RedoPiece}
 use Rattle.adg_model.specs.declared.delivery.RawDelivery.{RawDelivery}
 use Rattle.adg_model.specs.declared.delivery.CheckedDelivery.{CheckedDelivery}
 use Rattle.adg_model.specs.declared.fault.RedoFault.{RedoFault}
@@ -29,15 +30,32 @@ bad-is-fault threads ds thread number (kinds.Unsound i check) h = absurd h.bad
 
 module _ (old : Taking) (threads : ℕ) (ds : List RawDelivery) (d : RawDelivery) (before : HasTaken old threads ds) where
   -- all pieces of the delivery were accepted
-  pub accepted : (m : Merging) → Merges m (texts_with ds d.pieces) (merged_log before.records) → Merges m (texts_of (ds ++ d ∷ [])) (merged_log before.records)
-  accepted m s = stands-same m (texts_with ds d.pieces) (texts_of (ds ++ d ∷ [])) (merged_log before.records) (texts-all ds d) s
+  pub record Accepted (m : Merging) : Type 0 where
+    pub stands : Merges m (texts_of (ds ++ d ∷ [])) (merged_log before.records)
+    pub many : length m.threads ≡ threads
+    pub good : m.refused ≡ None
+
+  pub accepted : (was m : Merging) (pieces : List RedoPiece) → was ≡ old.merger → pieces ≡ d.pieces
+      → ((deliveries : List RawDelivery) (given : List LogEntry) → Merges was (texts_of deliveries) given → Merges m (texts_with deliveries pieces) given)
+      → length m.threads ≡ length was.threads → m.refused ≡ was.refused → Accepted m
+  accepted was m pieces is all stands many good =
+      let has = stands ds (merged_log before.records) (subst (λ (k : Merging). Merges k (texts_of ds) (merged_log before.records)) (sym is) before.merged) in
+      let whole = subst (λ (ps : List RedoPiece). Merges m (texts_with ds ps) (merged_log before.records)) all has in
+      record {
+        stands = stands-same m (texts_with ds d.pieces) (texts_of (ds ++ d ∷ [])) (merged_log before.records) (texts-all ds d) whole;
+        many = many ∙ ap (λ (k : Merging). length k.threads) is ∙ before.many;
+        good = good ∙ ap (λ (k : Merging). k.refused) is ∙ before.good;
+      }
 
   -- a bad record
-  pub bad-so : (m n : Merging) (new : Taking) (why : MergeRefused) → m.refused ≡ None → length m.threads ≡ threads → Drains m n (texts_of (ds ++ d ∷ [])) (merged_log before.records) (Err why) → TakesOne before new d (Err (of_merge why))
-  bad-so m n new (merge.Redo fault) good many h =
-      let bad = subst (λ (k : ℕ). IsFirstBad k (texts_of (ds ++ d ∷ [])) fault) many (h.1 good) in
+  pub bad-so : (m n : Merging) (new : Taking) (why : MergeRefused) → Accepted m → Drains m n (texts_of (ds ++ d ∷ [])) (merged_log before.records) (Err why) → TakesOne before new d (Err (of_merge why))
+  bad-so m n new (merge.Redo fault) a h =
+      let bad = subst (λ (k : ℕ). IsFirstBad k (texts_of (ds ++ d ∷ [])) fault) a.many (h.1 a.good) in
       bad-is-fault threads (ds ++ d ∷ []) fault.thread fault.number fault.kind (first-bad-record threads (ds ++ d ∷ []) fault bad)
-  bad-so m n new merge.Memory good many h = tt
+  bad-so m n new merge.Memory a h = tt
+
+  pub merged-so : (m n : Merging) (entries : List LogEntry) → Accepted m → MergesOn m n (texts_of (ds ++ d ∷ [])) (merged_log before.records) entries → IsMerged threads (texts_of (ds ++ d ∷ [])) (merged_log before.records ++ entries)
+  merged-so m n entries a h = subst (λ (k : ℕ). IsMerged k (texts_of (ds ++ d ∷ [])) (merged_log before.records ++ entries)) a.many h.merged
 
   module _ (entries : List LogEntry) (merged : IsMerged threads (texts_of (ds ++ d ∷ [])) (merged_log before.records ++ entries)) where
     received : ReceivedFrom 1 (ds ++ d ∷ []) merged.records

@@ -27,7 +27,8 @@ module _ (log es : List LogEntry) (i : ℕ) (e : LogEntry) (lt : i < length es) 
   pub follow-one : FollowOn log es → FollowOn (log ++ take i es) (e ∷ [])
   follow-one h =
       let rest : FollowOn (log ++ take i es) (drop i es) = follow-append log (take i es) (drop i es) (subst (FollowOn log) (sym (take-append-drop i es)) h) in
-      let first : FollowOn (log ++ take i es) (get_or es i e ∷ drop (i + 1) es) = subst (FollowOn (log ++ take i es)) (rw add-one (drop-cons es i e lt)) rest in
+      let cut : drop i es ≡ get_or es i e ∷ drop (i + 1) es = rw add-one (drop-cons es i e lt) in
+      let first : FollowOn (log ++ take i es) (get_or es i e ∷ drop (i + 1) es) = subst (FollowOn (log ++ take i es)) cut rest in
       subst (λ (x : LogEntry). FollowOn (log ++ take i es) (x ∷ [])) (sym is) (first.0, tt)
 
   -- where it fails a check it is the first of all
