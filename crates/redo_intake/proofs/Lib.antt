@@ -1,0 +1,5 @@
+pub mod FollowLaws
+pub mod UnsoundLaws
+pub mod PieceLaws
+pub mod NothingLaws
+pub mod IntakeLaws
