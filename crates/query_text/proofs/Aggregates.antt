@@ -1,8 +1,7 @@
 -- Aggregates are read as they are spelled.
-use Rattle.std.proofs.Common.{◌≡◌, ℕ, ◌<◌, ◌≤◌, List, [], ◌∷◌, ◌++◌, length, get_or, drop, Some, None, Result, ◌⊎◌, inl, inr, refl, sym, ap, ap₂, ◌∙◌, subst, arith, append_assoc, codes}
-use Rattle.std.specs.List.{AllByRecursion}
+use Rattle.std.proofs.Common.{◌≡◌, ℕ, List, [], ◌∷◌, ◌++◌, get_or, drop, Result, ◌⊎◌, inl, inr, refl, sym, ap, ◌∙◌, subst, arith, append_assoc, codes}
 use Rattle.std.specs.Fmt.{decimal}
-use Rattle.std.proofs.lemmas.List.{append-nil, append_cancel_left}
+use Rattle.std.proofs.lemmas.List.{append-nil}
 use Rattle.adg_base.specs.declared.command.Aggregate.{Aggregate}
 use Rattle.adg_base.specs.declared.command.Aggregate.TheVariants as aggregate
 use Rattle.adg_model.specs.Command.{aggregate_bytes, aggregates_bytes, IsColumn, IsAggregate}
@@ -11,11 +10,11 @@ use Rattle.query_text.specs.declared.aggregate.Function.TheVariants.{Count, Sum,
 use Rattle.query_text.specs.declared.aggregate.Behind.{Behind}
 use Rattle.query_text.specs.declared.aggregate.Behind.TheVariants as behind
 use Rattle.query_text.specs.declared.fault.Fault.{Fault}
-use Rattle.query_text.specs.Stopping.{first, Stops, Refuses, Spelled, Front, Takes, Reads, Anything, Begins}
+use Rattle.query_text.specs.Stopping.{Stops, Refuses, Spelled, Front, Takes, Reads, Anything, Begins}
 use Rattle.query_text.specs.Words.{IsMeant, Finds}
 use Rattle.query_text.specs.Parts.{EndsNumber, Ended, IsFunction, function_bytes, argument_bytes, IsBehind, behind_bytes, AreAsked, asked_bytes}
-use Rattle.query_text.proofs.Stopping.{heads, stops_in, stops_as, refuses}
-use Rattle.query_text.proofs.Tables.{IsTableOf, table_reads}
+use Rattle.query_text.proofs.Stopping.{stops_in, stops_as, refuses}
+use Rattle.query_text.proofs.Tables.{table_reads}
 use Rattle.query_text.proofs.Conditions.{ends_same}
 use Rattle.query_text.proofs.Apart.{column_apart, aggregate_apart}
 
@@ -67,9 +66,6 @@ argument_column_refused text fault r = refuses _ _ _ _ text text fault (λ left 
 
 pub bracket_refused : (all text : List ℕ) (n : ℕ) (fault : Fault) → Takes Ended IsColumn decimal all n text → Refuses (λ x. x ≡ codes ")") (Begins (codes ")")) text fault → Refuses (Spelled IsColumn argument_bytes) (Front Anything IsColumn argument_bytes) all fault
 bracket_refused all text n fault t r = refuses _ _ _ _ text all fault (λ left s. subst (λ l. ArgumentStops l left) (sym t.is) (bracket_stops n text left t.good t.ends s)) r
-
-pub argument_takes : (all behind rest : List ℕ) (n : ℕ) → Takes Ended IsColumn decimal all n behind → behind ≡ codes ")" ++ rest → Takes Anything IsColumn argument_bytes all n rest
-argument_takes all behind rest n t e = record { good = t.good; ends = tt; is = t.is ∙ ap (λ l. decimal n ++ l) e ∙ sym (append_assoc (decimal n) (codes ")") rest) }
 
 -- ---- one aggregate
 
@@ -145,10 +141,6 @@ function_refused text fault r = refuses _ _ _ _ text text fault (λ left s. func
 
 pub argument_refused : (f : Function) (all text : List ℕ) (fault : Fault) → TakesColumn f → Takes Anything IsFunction function_bytes all f text → Refuses (Spelled IsColumn argument_bytes) (Front Anything IsColumn argument_bytes) text fault → AggregateRefused all fault
 argument_refused f all text fault c t r = refuses _ _ _ _ text all fault (λ left s. subst (λ l. AggregateStops l left) (sym t.is) (argument_stops f text left c s)) r
-
-pub aggregate_takes : (f : Function) (all text rest : List ℕ) (n : ℕ) → TakesColumn f → Takes Anything IsFunction function_bytes all f text → Takes Anything IsColumn argument_bytes text n rest → Takes Anything IsAggregate aggregate_bytes all (of_column f n) rest
-aggregate_takes f all text rest n c t u =
-    record { good = of_column_good f n u.good; ends = tt; is = t.is ∙ ap (λ l. function_bytes f ++ l) u.is ∙ sym (append_assoc (function_bytes f) (argument_bytes n) rest) ∙ ap (λ l. l ++ rest) (of_column_bytes f n c) }
 
 -- ---- aggregates
 
@@ -246,9 +238,6 @@ later_asked_stops a text left good s =
 pub record HasAsked (all : List ℕ) (done : List Aggregate) (text : List ℕ) : Type 0 where
   pub stops : (left : ℕ) → AskedStops text left → AskedStops all left
   pub gives : (listed : List Aggregate) (k : List ℕ) → AreAsked listed → text ≡ asked_bytes listed ++ k → Takes Anything AreAsked asked_bytes all (done ++ listed) k
-
-pub none_asked : (all : List ℕ) → HasAsked all [] all
-none_asked all = record { stops = λ left s. s; gives = λ listed k good is. record { good = good; ends = tt; is = is } }
 
 -- an aggregate, and behind it the word in front of the next
 pub more_asked : (all : List ℕ) (done : List Aggregate) (text after rest : List ℕ) (a : Aggregate) → HasAsked all done text → Takes Anything IsAggregate aggregate_bytes text a after → Takes Anything IsBehind behind_bytes after behind.Aggregate rest → HasAsked all (done ++ a ∷ []) rest

@@ -1,6 +1,6 @@
 -- A text spells at most one command, since the end of each part of a spelling can be seen.
-use Rattle.std.proofs.Common.{◌≡◌, ◌≢◌, ℕ, ◌<◌, ◌≤◌, ◌^◌, ℤ, pos, negsuc, true, List, [], ◌∷◌, ◌++◌, length, get_or, drop, Some, None, suc, codes, refl, sym, ap, ap₂, ◌∙◌, subst, arith, append_assoc}
-use Rattle.std.specs.Prelude.{Option, FitsSigned, nat_le}
+use Rattle.std.proofs.Common.{◌≡◌, ℕ, ◌<◌, ◌≤◌, ◌^◌, ℤ, pos, negsuc, true, List, [], ◌∷◌, ◌++◌, length, get_or, drop, suc, codes, refl, sym, ap, ap₂, ◌∙◌, subst, arith, append_assoc}
+use Rattle.std.specs.Prelude.{FitsSigned, nat_le}
 use Rattle.std.specs.List.{AllByRecursion, list_all}
 use Rattle.std.specs.Int.{w64}
 use Rattle.std.specs.Fmt.{decimal, signed_decimal}
@@ -11,17 +11,11 @@ use Rattle.std.proofs.lemmas.Str.Parse.{digit_from_value}
 use Rattle.adg_base.specs.Text.{IsText, is_text_byte}
 use Rattle.adg_base.specs.declared.value.Value.{Value}
 use Rattle.adg_base.specs.declared.value.Value.TheVariants.{Null, Int, Text}
-use Rattle.adg_base.specs.declared.command.Command.TheVariants as command
-use Rattle.adg_base.specs.declared.command.Select.{Select}
-use Rattle.adg_base.specs.declared.command.Condition.{Condition}
 use Rattle.adg_base.specs.declared.command.Op.{Op}
 use Rattle.adg_base.specs.declared.command.Op.TheVariants as op
-use Rattle.adg_base.specs.declared.command.What.{What}
-use Rattle.adg_base.specs.declared.command.What.TheVariants.{All, Aggregates}
 use Rattle.adg_base.specs.declared.command.Aggregate.{Aggregate}
 use Rattle.adg_base.specs.declared.command.Aggregate.TheVariants.{Count, Sum, Min, Max}
-use Rattle.adg_model.specs.Spelling.{IsValue}
-use Rattle.adg_model.specs.Command.{table_bytes, literal_bytes, op_bytes, aggregate_bytes, aggregates_bytes, condition_bytes, conditions_bytes, where_bytes, group_bytes, what_bytes, select_bytes, IsColumn, IsAggregate, IsCondition, IsGroup, IsWhat, IsSelect}
+use Rattle.adg_model.specs.Command.{literal_bytes, op_bytes, aggregate_bytes, aggregates_bytes, IsColumn, IsAggregate}
 use Rattle.query_text.specs.Parts.{IsDigit, BeginsElse, EndsNumber, IsLiteral, EndsLiteral}
 use Rattle.query_text.proofs.Stopping.{heads}
 
@@ -137,14 +131,8 @@ aggregate_apart (Max c) (Max d) x y h k e = let p = bracketed_apart c d x y h k 
 aggregate_apart a b x y h k e = absurd (omega (arith, ap (λ l. get_or l 0 0) e, ap (λ l. get_or l 1 0) e))
 
 -- what is joined from the left, joined from the right
-pub regroup_3 : (a b c x : List ℕ) → a ++ b ++ c ++ x ≡ a ++ (b ++ (c ++ x))
+regroup_3 : (a b c x : List ℕ) → a ++ b ++ c ++ x ≡ a ++ (b ++ (c ++ x))
 regroup_3 a b c x = simp append_assoc
-
-pub regroup_4 : (a b c d x : List ℕ) → a ++ b ++ c ++ d ++ x ≡ a ++ (b ++ (c ++ (d ++ x)))
-regroup_4 a b c d x = simp append_assoc
-
-pub regroup_5 : (a b c d e x : List ℕ) → a ++ b ++ c ++ d ++ e ++ x ≡ a ++ (b ++ (c ++ (d ++ (e ++ x))))
-regroup_5 a b c d e x = simp append_assoc
 
 -- aggregates, and behind them a space
 pub aggregates_laid : (a b : Aggregate) (more : List Aggregate) (x : List ℕ) → aggregates_bytes (a ∷ b ∷ more) ++ x ≡ aggregate_bytes a ++ (codes ", " ++ (aggregates_bytes (b ∷ more) ++ x))

@@ -13,14 +13,13 @@ use Rattle.query_text.specs.declared.read.Verb.{Verb}
 use Rattle.query_text.specs.declared.read.Verb.TheVariants.{Populate, Sync, ShowScn, Abort}
 use Rattle.query_text.specs.declared.read.Verb.TheVariants as verb
 use Rattle.query_text.specs.declared.fault.Fault.{Fault}
-use Rattle.query_text.specs.declared.fault.Fault.TheVariants.{Stopped}
 use Rattle.query_text.specs.declared.refused.TextFault.{TextFault}
 use Rattle.query_text.specs.declared.refused.TextFault.TheVariants.{BadQuery, Memory}
-use Rattle.query_text.specs.Stopping.{first, Stops, Refuses, Spelled, Front, Takes, Reads, ReadsAll, Anything}
+use Rattle.query_text.specs.Stopping.{Stops, Refuses, Spelled, Front, Takes, Reads, ReadsAll, Anything}
 use Rattle.query_text.specs.Words.{IsMeant, Finds}
 use Rattle.query_text.specs.Parts.{query_bytes, IsVerb, verb_bytes, IsWhole}
 use Rattle.query_text.proofs.Stopping.{stops_in, stops_as, refuses}
-use Rattle.query_text.proofs.Tables.{IsTableOf, table_reads}
+use Rattle.query_text.proofs.Tables.{table_reads}
 use Rattle.query_text.proofs.Selects.{select_is, one_query, one_query_good}
 
 -- ---- how a command begins
@@ -143,9 +142,6 @@ query_is all text s t h = (h.0, t.is ∙ ap (λ l. codes "SELECT " ++ l) h.1 ∙
 pub populate_refused : (all text : List ℕ) (fault : Fault) → Takes Anything IsVerb verb_bytes all Populate text → Refuses (Spelled IsObj decimal) (Spelled IsObj decimal) text fault → CommandRefused all fault
 populate_refused all text fault t r = refuses _ _ _ _ text all fault (λ left s. subst (λ l. CommandStops l left) (sym t.is) (populate_stops text left s)) r
 
-pub populate_is : (all text : List ℕ) (o : ℕ) → Takes Anything IsVerb verb_bytes all Populate text → IsObj o × (text ≡ decimal o) → IsObj o × (all ≡ command_bytes (command.Populate o))
-populate_is all text o t h = (h.0, t.is ∙ ap (λ l. codes "POPULATE t" ++ l) h.1)
-
 pub word_reads : (v : Verb) (c : Command) (all rest : List ℕ) (r : Result Command Fault) → word_command v ≡ Some c → Takes Anything IsVerb verb_bytes all v rest → IsWhole c rest r → ReadsAll (λ d. d) IsCommand command_bytes all r
 word_reads v c all rest (Ok d) w t h =
     let p = word_is v c w in
@@ -155,8 +151,8 @@ word_reads v c all rest (Err fault) w t h =
 
 -- ---- the byte
 
-begun : (x : List ℕ) → BeginsCommand x → (k : List ℕ) × Spelled IsCommand command_bytes (x ++ k)
-begun x b = (b.rest, record { value = b.command; good = b.good; is = sym b.begins })
+begins_more : (before more : List ℕ) (c : ℕ) → BeginsCommand (before ++ c ∷ more) → (later : List ℕ) × Spelled IsCommand command_bytes (before ++ c ∷ later)
+begins_more before more c b = (more ++ b.rest, record { value = b.command; good = b.good; is = sym (b.begins ∙ append_assoc before (c ∷ more) b.rest) })
 
 pub bad_query : (text : List ℕ) (left : ℕ) → CommandStops text left → IsBadQuery text (length text - left)
 bad_query text left s =
@@ -167,7 +163,7 @@ bad_query text left s =
     record {
       none = λ c spells. s.none (record { value = c; good = spells.0; is = spells.1 });
       within = omega arith;
-      begins = subst BeginsCommand (sym front) (record { command = s.begins.value; rest = s.more; good = s.begins.good; begins = sym s.begins.is });
+      begins = subst BeginsCommand {x = s.before} (sym front) (record { command = s.begins.value; rest = s.more; good = s.begins.good; begins = sym s.begins.is });
       longest = λ longer lt le b. longer_begins s.before s.behind s.longest longer (omega arith) (omega arith) (subst (λ l. BeginsCommand (take longer l)) s.parts b);
     }
   where
@@ -176,8 +172,8 @@ bad_query text left s =
     longer_begins before (c ∷ cs) longest longer lt le b =
         let more : longer ≡ length before + suc (longer - length before - 1) = omega arith in
         let is : take longer (before ++ c ∷ cs) ≡ before ++ c ∷ take (longer - length before - 1) cs = ap (λ n. take n (before ++ c ∷ cs)) more ∙ take-append-add before (c ∷ cs) (suc (longer - length before - 1)) in
-        let h = begun (before ++ c ∷ take (longer - length before - 1) cs) (subst BeginsCommand is b) in
-        longest c cs (take (longer - length before - 1) cs ++ h.0) refl (subst (Spelled IsCommand command_bytes) (append_assoc before (c ∷ take (longer - length before - 1) cs) h.0) h.1)
+        let h = begins_more before (take (longer - length before - 1) cs) c (subst BeginsCommand is b) in
+        longest c cs h.0 refl h.1
 
 abbrev refused : TextFault → Result Command TextFault
 refused e = Err e

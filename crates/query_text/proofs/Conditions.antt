@@ -1,5 +1,5 @@
 -- Tests are read as they are spelled.
-use Rattle.std.proofs.Common.{◌≡◌, ℕ, ℤ, pos, ◌<◌, ◌≤◌, List, [], ◌∷◌, ◌++◌, length, drop, Some, None, Result, ◌⊎◌, inl, inr, refl, sym, ap, ◌∙◌, subst, arith, append_assoc, codes}
+use Rattle.std.proofs.Common.{◌≡◌, ℕ, pos, List, [], ◌∷◌, ◌++◌, drop, Result, inl, inr, refl, sym, ap, ◌∙◌, subst, arith, append_assoc, codes}
 use Rattle.std.specs.Fmt.{decimal}
 use Rattle.std.proofs.lemmas.List.{append-nil}
 use Rattle.adg_base.specs.declared.value.Value.TheVariants.{Int}
@@ -11,8 +11,8 @@ use Rattle.query_text.specs.Stopping.{first, Stops, Refuses, Spelled, Front, Tak
 use Rattle.query_text.specs.declared.fault.Fault.{Fault}
 use Rattle.query_text.specs.Words.{IsMeant, Finds}
 use Rattle.query_text.specs.Parts.{EndsNumber, Ended, IsLiteral, EndsLiteral, EndsTest, IsOp, spaced_op, test_bytes}
-use Rattle.query_text.proofs.Stopping.{heads, stops_in, stops_as, refuses}
-use Rattle.query_text.proofs.Tables.{IsTableOf, table_reads}
+use Rattle.query_text.proofs.Stopping.{stops_in, stops_as, refuses}
+use Rattle.query_text.proofs.Tables.{table_reads}
 use Rattle.query_text.proofs.Literals.{no_null_int}
 use Rattle.query_text.proofs.Apart.{column_apart, op_apart}
 
@@ -103,7 +103,3 @@ pub literal_refused : (all behind text : List ℕ) (n : ℕ) (o : Op) (fault : F
 literal_refused all behind text n o fault t u r =
     let is : all ≡ (decimal n ++ spaced_op o) ++ text = t.is ∙ ap (λ l. decimal n ++ l) u.is ∙ sym (append_assoc (decimal n) (spaced_op o) text) in
     refuses _ _ _ _ text all fault (λ left s. subst (λ l. TestStops l left) (sym is) (literal_stops n o text left t.good s)) r
-
-pub test_takes : (all behind text rest : List ℕ) (c : Condition) → Takes Ended IsColumn decimal all c.column behind → Takes Anything IsOp spaced_op behind c.op text → Takes EndsLiteral IsLiteral literal_bytes text c.literal rest → Takes EndsTest IsCondition test_bytes all c rest
-test_takes all behind text rest c t u v =
-    record { good = (t.good, v.good.0, v.good.1); ends = v.ends; is = t.is ∙ ap (λ l. decimal c.column ++ l) (u.is ∙ ap (λ l. spaced_op c.op ++ l) v.is ∙ sym (append_assoc (spaced_op c.op) (literal_bytes c.literal) rest)) ∙ sym (append_assoc (decimal c.column) (spaced_op c.op ++ literal_bytes c.literal) rest) }

@@ -1,18 +1,18 @@
 -- Literals are read as they are spelled.
-use Rattle.std.proofs.Common.{◌≡◌, ℕ, ℤ, ◌+◌, ◌-◌, ◌<◌, ◌≤◌, Bool, true, false, List, [], ◌∷◌, ◌++◌, length, get_or, take, drop, Some, None, Result, Ok, Err, ◌⊎◌, inl, inr, refl, sym, ap, ap₂, ◌∙◌, subst, arith, append_assoc, codes}
+use Rattle.std.proofs.Common.{◌≡◌, ℕ, ℤ, ◌+◌, ◌-◌, ◌<◌, ◌≤◌, Bool, true, false, List, [], ◌∷◌, ◌++◌, length, get_or, take, drop, Some, refl, sym, ap, ap₂, ◌∙◌, subst, arith, append_assoc}
 use Rattle.std.specs.Prelude.{FitsSigned, nat_le}
 use Rattle.std.specs.List.{AllByRecursion, list_all}
 use Rattle.std.specs.Int.{w64}
 use Rattle.std.specs.Fmt.{signed_decimal}
 use Rattle.std.proofs.lemmas.Bool.{and_parts, and_from, leb-true, le-leb}
 use Rattle.std.proofs.lemmas.List.{append-nil, length-append, length-take-le, take-append-drop, length-drop, drop_more}
-use Rattle.adg_base.specs.Text.{IsText, is_text, is_text_byte}
+use Rattle.adg_base.specs.Text.{IsText, is_text_byte}
 use Rattle.adg_base.specs.declared.value.Value.{Value}
 use Rattle.adg_base.specs.declared.value.Value.TheVariants.{Null, Int, Text}
 use Rattle.adg_model.specs.Command.{literal_bytes}
-use Rattle.query_text.specs.Stopping.{first, Stops, Refuses, Spelled, Front, Takes, Anything}
+use Rattle.query_text.specs.Stopping.{first, Stops, Refuses, Spelled, Front, Anything}
 use Rattle.query_text.specs.declared.fault.Fault.{Fault}
-use Rattle.query_text.specs.Parts.{EndsNumber, Ended, IsLiteral, EndsLiteral, closed}
+use Rattle.query_text.specs.Parts.{Ended, IsLiteral, EndsLiteral, closed}
 use Rattle.query_text.specs.Literals.{IsTextLen}
 use Rattle.query_text.proofs.Stopping.{heads, stops_in, stops_as, refuses}
 use Rattle.query_text.proofs.Apart.{IsNoQuote, no_quotes, signed_no_quote}
@@ -95,14 +95,6 @@ text_stops bytes n h other =
           no_text bytes n h f.value f.rest (c ∷ later) f.good (λ q. other (sym same ∙ q)) same (sym (append_assoc f.value (39 ∷ []) f.rest) ∙ sym f.is);
     }
 
-pub text_takes : (bytes behind : List ℕ) (n : ℕ) → IsTextLen bytes n → drop n bytes ≡ 39 ∷ behind → Takes Anything IsText closed bytes (take n bytes) behind
-text_takes bytes behind n h e =
-    record {
-      good = front_text bytes n h;
-      ends = tt;
-      is = sym (take-append-drop n bytes) ∙ ap (λ l. take n bytes ++ l) e ∙ sym (append_assoc (take n bytes) (39 ∷ []) behind);
-    }
-
 -- ---- literals
 
 abbrev pub LiteralStops : List ℕ → ℕ → Type 0
@@ -151,9 +143,3 @@ text_literal_refused all text fault is r = refuses _ _ _ _ text all fault (λ le
 
 pub int_literal_refused : (text : List ℕ) (fault : Fault) → (first text ≡ Some 39 → ⊥) → Refuses (Spelled (FitsSigned w64) signed_decimal) (Front Ended (FitsSigned w64) signed_decimal) text fault → Refuses (Spelled IsLiteral literal_bytes) (Front EndsLiteral IsLiteral literal_bytes) text fault
 int_literal_refused text fault other r = refuses _ _ _ _ text text fault (λ left s. int_literal_stops text left other s) r
-
-pub text_literal_takes : (all text rest t : List ℕ) → all ≡ 39 ∷ text → Takes Anything IsText closed text t rest → Takes EndsLiteral IsLiteral literal_bytes all (Text t) rest
-text_literal_takes all text rest t is h = record { good = (h.good, no_null_text t); ends = tt; is = is ∙ ap (λ l. 39 ∷ l) h.is }
-
-pub int_literal_takes : (text rest : List ℕ) (n : ℤ) → Takes Ended (FitsSigned w64) signed_decimal text n rest → Takes EndsLiteral IsLiteral literal_bytes text (Int n) rest
-int_literal_takes text rest n h = record { good = (h.good, no_null_int n); ends = h.ends; is = h.is }

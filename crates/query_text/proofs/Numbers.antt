@@ -1,5 +1,5 @@
 -- Numbers are read as far as they are in range.
-use Rattle.std.proofs.Common.{◌≡◌, ℕ, ℤ, pos, negsuc, ◌+◌, ◌-◌, ◌*◌, ◌/◌, ◌%◌, ◌^◌, ◌<◌, ◌≤◌, zero, suc, List, [], ◌∷◌, ◌++◌, length, get_or, drop, Some, None, Result, Ok, Err, ◌⊎◌, inl, inr, refl, sym, ap, ap₂, ◌∙◌, subst, arith, append_assoc, codes}
+use Rattle.std.proofs.Common.{◌≡◌, ℕ, ℤ, pos, negsuc, ◌+◌, ◌-◌, ◌*◌, ◌/◌, ◌%◌, ◌^◌, ◌<◌, ◌≤◌, zero, suc, List, [], ◌∷◌, ◌++◌, length, get_or, drop, Some, Result, Ok, Err, ◌⊎◌, inl, inr, refl, sym, ap, ap₂, ◌∙◌, subst, arith, append_assoc}
 use Rattle.std.specs.Prelude.{FitsSigned, unwrap_or}
 use Rattle.std.specs.List.{AllByRecursion}
 use Rattle.std.specs.Int.{w64}
@@ -8,7 +8,7 @@ use Rattle.std.specs.Fmt.{decimal, signed_decimal}
 use Rattle.std.specs.Str.Parse.{digits_value_after}
 use Rattle.std.proofs.lemmas.Str.{digit_value_digit}
 use Rattle.std.proofs.lemmas.Fmt.{decimal_digit, decimal_step, decimal_is_IsNumeral, first_decimal}
-use Rattle.std.proofs.lemmas.List.{append-nil, length-append, get_or_append_left}
+use Rattle.std.proofs.lemmas.List.{append-nil, get_or_append_left}
 use Rattle.query_text.specs.Stopping.{first, Stops, Refuses, Spelled, Front, Takes, Reads}
 use Rattle.query_text.specs.declared.fault.Fault.{Fault}
 use Rattle.adg_model.specs.Spelling.{IsObj}
@@ -147,10 +147,6 @@ no_digits limit bytes rest low lim ends n is (inl h) =
     subst (λ l. NumberStops limit l (length rest)) h.1 (no_number limit rest low lim (no_digit rest ends))
 no_digits limit bytes rest low lim ends n is (inr h) = absurd (omega (arith, h.0))
 
-pub whole_number : (limit : ℕ) (bytes rest : List ℕ) (n : ℕ) → EndsNumber rest → (n ≡ 0 → ⊥) → HasDigits limit bytes n rest → Takes Ended (IsNumber limit) decimal bytes n rest
-whole_number limit bytes rest n ends some (inl h) = absurd (some h.0)
-whole_number limit bytes rest n ends some (inr h) = record { good = h.0; ends = ends; is = h.1 }
-
 -- ---- integers
 
 abbrev pub IntegerStops : List ℕ → ℕ → Type 0
@@ -184,13 +180,6 @@ zero_stops behind rest d le is =
 
 pub zero_takes : (behind : List ℕ) → EndsNumber behind → Takes Ended IsZero signed_decimal (48 ∷ behind) (pos 0) behind
 zero_takes behind ends = record { good = refl; ends = ends; is = ap (λ l. l ++ behind) (sym zero_is) }
-
--- behind a minus
-pub minus_takes : (digits rest : List ℕ) (n : ℕ) → Takes Ended (IsNumber (2 ^ 63)) decimal digits n rest → Takes Ended (FitsSigned w64) signed_decimal (45 ∷ digits) (negsuc (n - 1)) rest
-minus_takes digits rest n t =
-    let good = t.good in
-    let is : n ≡ suc (n - 1) = omega (arith, good.0) in
-    record { good = omega (arith, good.0, good.1); ends = t.ends; is = ap (λ l. 45 ∷ l) (t.is ∙ ap (λ m. decimal m ++ rest) is) }
 
 no_minus : (n : ℕ) (rest x : List ℕ) → n < 2 ^ 64 → 45 ∷ x ≡ decimal n ++ rest → ⊥
 no_minus n rest x small e = let d = decimal_first n rest small in omega (arith, d.0, ap (λ l. get_or l 0 0) e)
@@ -252,9 +241,6 @@ plain_stops text left no_sign no_zero s =
     (λ x h. let good = h.good in ([], record { value = pos h.value; good = omega (arith, good.1); is = append-nil x ∙ h.is }))
     (λ x e f. elim (integer_first x f (λ m. no_sign (sym e ∙ m))) [ inl z ↦ absurd (no_zero (sym e ∙ zero_first x z)) | inr n ↦ n ])
     s
-
-pub plain_takes : (text rest : List ℕ) (n : ℕ) → Takes Ended (IsNumber (2 ^ 63 - 1)) decimal text n rest → Takes Ended (FitsSigned w64) signed_decimal text (pos n) rest
-plain_takes text rest n t = let good = t.good in record { good = omega (arith, good.1); ends = t.ends; is = t.is }
 
 -- ---- columns and objects
 

@@ -1,6 +1,5 @@
 -- Queries are read as they are spelled.
-use Rattle.std.proofs.Common.{◌≡◌, ℕ, ◌<◌, ◌≤◌, Bool, true, false, List, [], ◌∷◌, ◌++◌, length, get_or, drop, Option, Some, None, Result, Ok, Err, ◌⊎◌, inl, inr, refl, sym, ap, ap₂, ◌∙◌, subst, arith, append_assoc, codes}
-use Rattle.std.specs.List.{AllByRecursion}
+use Rattle.std.proofs.Common.{◌≡◌, ℕ, Bool, true, false, List, [], ◌∷◌, ◌++◌, drop, Option, Some, None, Result, Ok, Err, inl, refl, sym, ap, ◌∙◌, subst, arith, append_assoc, codes}
 use Rattle.std.specs.Fmt.{decimal}
 use Rattle.std.proofs.lemmas.List.{append-nil, append_cancel_left}
 use Rattle.adg_base.specs.declared.command.Aggregate.{Aggregate}
@@ -9,14 +8,14 @@ use Rattle.adg_base.specs.declared.command.Select.{Select}
 use Rattle.adg_base.specs.declared.command.What.{What}
 use Rattle.adg_base.specs.declared.command.What.TheVariants.{All, Aggregates}
 use Rattle.adg_model.specs.Spelling.{IsObj}
-use Rattle.adg_model.specs.Command.{aggregates_bytes, condition_bytes, conditions_bytes, where_bytes, group_bytes, what_bytes, select_bytes, literal_bytes, op_bytes, IsCondition, IsGroup, IsWhat, IsSelect}
+use Rattle.adg_model.specs.Command.{aggregates_bytes, condition_bytes, conditions_bytes, where_bytes, group_bytes, what_bytes, select_bytes, literal_bytes, op_bytes, IsGroup, IsWhat, IsSelect}
 use Rattle.query_text.specs.declared.fault.Fault.{Fault}
 use Rattle.query_text.specs.Stopping.{first, Stops, Refuses, Spelled, Front, Takes, ReadsAll, Anything, Begins}
 use Rattle.query_text.specs.Parts.{EndsNumber, Ended, test_bytes, tests_bytes, Tail, tail_bytes, IsGroupIn, IsTail, table_tail_bytes, IsTable, AreAsked, asked_bytes, query_bytes, AsksRows, AsksSums}
 use Rattle.query_text.proofs.Stopping.{stops_in, stops_as, refuses}
 use Rattle.query_text.proofs.Numbers.{obj_small}
 use Rattle.query_text.proofs.Conditions.{ends_same}
-use Rattle.query_text.proofs.Tails.{tail_ends}
+use Rattle.query_text.proofs.Tails.{none_in, tail_ends}
 use Rattle.query_text.proofs.Apart.{decimal_apart, aggregates_apart, aggregates_no_star}
 
 abbrev where_word : List ℕ
@@ -26,10 +25,6 @@ where_word = codes " WHERE c"
 
 abbrev pub TableStops : Bool → List ℕ → ℕ → Type 0
 TableStops grouped text left = Stops (Spelled (IsTable grouped) table_tail_bytes) (Spelled (IsTable grouped) table_tail_bytes) text left
-
-none_in : (grouped : Bool) → IsGroupIn grouped None
-none_in true = tt
-none_in false = refl
 
 number_table_stops : (grouped : Bool) (text : List ℕ) (left : ℕ) → Stops (Spelled IsObj decimal) (Front Ended IsObj decimal) text left → TableStops grouped text left
 number_table_stops grouped text left s =
@@ -55,9 +50,6 @@ number_table_refused grouped all fault r = refuses _ _ _ _ all all fault (λ lef
 
 pub tail_table_refused : (grouped : Bool) (all text : List ℕ) (n : ℕ) (fault : Fault) → Takes Ended IsObj decimal all n text → Refuses (Spelled (IsTail grouped) (tail_bytes (codes " WHERE c"))) (Spelled (IsTail grouped) (tail_bytes (codes " WHERE c"))) text fault → TableRefused grouped all fault
 tail_table_refused grouped all text n fault t r = refuses _ _ _ _ text all fault (λ left s. subst (λ l. TableStops grouped l left) (sym t.is) (tail_table_stops grouped n text left t.good t.ends s)) r
-
-pub table_is : (grouped : Bool) (all text : List ℕ) (n : ℕ) (tail : Tail) → Takes Ended IsObj decimal all n text → IsTail grouped tail × (text ≡ tail_bytes (codes " WHERE c") tail) → IsTable grouped (n, tail) × (all ≡ table_tail_bytes (n, tail))
-table_is grouped all text n tail t h = ((t.good, h.0), t.is ∙ ap (λ l. decimal n ++ l) h.1)
 
 -- ---- queries of rows, and of aggregates
 
@@ -173,17 +165,11 @@ star_refused all fault r = refuses _ _ _ _ all all fault (λ left s. star_stops 
 pub rows_table_refused : (all text : List ℕ) (fault : Fault) → all ≡ codes "* FROM t" ++ text → TableRefused false text fault → Refuses (Spelled AsksRows query_bytes) (Spelled AsksRows query_bytes) all fault
 rows_table_refused all text fault is r = refuses _ _ _ _ text all fault (λ left s. subst (λ l. RowsStops l left) (sym is) (rows_table_stops text left s)) r
 
-pub rows_are : (all text : List ℕ) (n : ℕ) (t : Tail) → all ≡ codes "* FROM t" ++ text → IsTable false (n, t) × (text ≡ table_tail_bytes (n, t)) → AsksRows (record { obj = n; what = All; conditions = t.0; group = t.1 }) × (all ≡ query_bytes (record { obj = n; what = All; conditions = t.0; group = t.1 }))
-rows_are all text n t is h = ((rows_good n t h.0, refl), is ∙ ap (λ l. codes "* FROM t" ++ l) h.1)
-
 pub asked_refused : (all : List ℕ) (fault : Fault) → Refuses (Spelled AreAsked asked_bytes) (Front Anything AreAsked asked_bytes) all fault → Refuses (Spelled AsksSums query_bytes) (Spelled AsksSums query_bytes) all fault
 asked_refused all fault r = refuses _ _ _ _ all all fault (λ left s. asked_sums_stops all left s) r
 
 pub sums_table_refused : (all text : List ℕ) (listed : List Aggregate) (fault : Fault) → Takes Anything AreAsked asked_bytes all listed text → TableRefused true text fault → Refuses (Spelled AsksSums query_bytes) (Spelled AsksSums query_bytes) all fault
 sums_table_refused all text listed fault t r = refuses _ _ _ _ text all fault (λ left s. subst (λ l. SumsStops l left) (sym t.is) (sums_table_stops listed text left t.good s)) r
-
-pub sums_are : (all text : List ℕ) (listed : List Aggregate) (n : ℕ) (t : Tail) → Takes Anything AreAsked asked_bytes all listed text → IsTable true (n, t) × (text ≡ table_tail_bytes (n, t)) → AsksSums (record { obj = n; what = Aggregates listed; conditions = t.0; group = t.1 }) × (all ≡ query_bytes (record { obj = n; what = Aggregates listed; conditions = t.0; group = t.1 }))
-sums_are all text listed n t u h = ((sums_good listed n t u.good h.0, no_all listed), u.is ∙ ap (λ l. asked_bytes listed ++ l) h.1 ∙ append_assoc (aggregates_bytes listed) (codes " FROM t") (table_tail_bytes (n, t)))
 
 -- ---- queries
 

@@ -1,13 +1,11 @@
 -- A table of the spellings of a few things is read as they are spelled.
-use Rattle.std.proofs.Common.{◌≡◌, ℕ, List, [], ◌∷◌, ◌++◌, length, Some, None, Result, Ok, Err, ◌⊎◌, inl, inr, refl, sym, ap, ◌∙◌, subst, append_assoc}
+use Rattle.std.proofs.Common.{◌≡◌, ℕ, List, [], ◌∷◌, ◌++◌, Result, Ok, Err, ◌⊎◌, inl, inr, sym, ap, ◌∙◌, subst}
 use Rattle.std.specs.List.{AllByRecursion}
 use Rattle.std.proofs.lemmas.List.{append-nil}
-use Rattle.query_text.specs.Stopping.{first, Stops, Refuses, Spelled, Front, Takes, Reads, Anything}
+use Rattle.query_text.specs.Stopping.{Stops, Spelled, Front, Takes, Reads, Anything}
 use Rattle.query_text.specs.declared.fault.Fault.{Fault}
-use Rattle.query_text.specs.declared.fault.Fault.TheVariants.{Stopped, Memory}
-use Rattle.query_text.specs.Words.{found, Finds, IsWord, Means, IsMeant}
-use Rattle.query_text.proofs.Stopping.{stops_as}
-use Rattle.query_text.proofs.Words.{IsFront, found_means, words_stop}
+use Rattle.query_text.specs.Words.{Finds, IsWord, IsFront, Means, IsMeant}
+use Rattle.query_text.proofs.Stopping.{stops_as, refuses}
 
 -- words that are the spellings of what they mean, of everything good, and there is something good
 pub record IsTableOf {W T : Type 0} (now : W → List ℕ) (Good : T → Type 0) (spell : T → List ℕ) (words : List (W × T)) : Type 0 where
@@ -38,17 +36,13 @@ begun_spelled now Good spell words table x (inr h) =
     let s = word_spelled now Good spell words x table.sound h in
     ([], record { value = s.value; good = s.good; is = append-nil x ∙ s.is })
 
-pub table_takes : {W T : Type 0} (now : W → List ℕ) (Good : T → Type 0) (spell : T → List ℕ) (words : List (W × T)) (table : IsTableOf now Good spell words) (text : List ℕ) (t : T) (rest : List ℕ) → found now words text (length text) ≡ Ok (t, rest) → Takes Anything Good spell text t rest
-table_takes now Good spell words table text t rest e = means_takes now Good spell words t text rest table.sound (found_means now words text (length text) t rest e)
-
-pub table_stops : {W T : Type 0} (now : W → List ℕ) (Good : T → Type 0) (spell : T → List ℕ) (words : List (W × T)) (table : IsTableOf now Good spell words) (text : List ℕ) (left : ℕ) → found now words text (length text) ≡ Err left → Stops (Spelled Good spell) (Front Anything Good spell) text left
-table_stops now Good spell words table text left e =
+table_stops : {W T : Type 0} (now : W → List ℕ) (Good : T → Type 0) (spell : T → List ℕ) (words : List (W × T)) (table : IsTableOf now Good spell words) (text : List ℕ) (left : ℕ) → Stops (λ x. (x ≡ []) ⊎ IsWord now words x) (IsFront now words) text left → Stops (Spelled Good spell) (Front Anything Good spell) text left
+table_stops now Good spell words table text left s =
     stops_as (λ x. (x ≡ []) ⊎ IsWord now words x) (IsFront now words) (Spelled Good spell) (Front Anything Good spell) text left
     (λ x h. begun_spelled now Good spell words table x h)
     (λ x same f. in_front now Good spell words f.value x f.rest table.sound (table.whole f.value f.good) f.is)
-    (words_stop now words text left e)
+    s
 
 pub table_reads : {W T Y : Type 0} (now : W → List ℕ) (Good : T → Type 0) (spell : T → List ℕ) (words : List (W × T)) (table : IsTableOf now Good spell words) (meaning : Y → T) (rest : Y → List ℕ) (text : List ℕ) (r : Result Y Fault) → Finds now words meaning rest text r → Reads meaning rest Anything Good spell text r
-table_reads now Good spell words table meaning rest text (Ok y) h = table_takes now Good spell words table text (meaning y) (rest y) h
-table_reads now Good spell words table meaning rest text (Err fault) h =
-    subst (λ f. Refuses (Spelled Good spell) (Front Anything Good spell) text f) (sym h.1) (table_stops now Good spell words table text h.0 h.2)
+table_reads now Good spell words table meaning rest text (Ok y) h = means_takes now Good spell words (meaning y) text (rest y) table.sound h
+table_reads now Good spell words table meaning rest text (Err fault) h = refuses _ _ _ _ text text fault (λ left s. table_stops now Good spell words table text left s) h

@@ -1,21 +1,20 @@
 -- The tests and the group behind a table are read as they are spelled.
-use Rattle.std.proofs.Common.{◌≡◌, ℕ, pos, ◌<◌, ◌≤◌, Bool, true, false, List, [], ◌∷◌, ◌++◌, length, get_or, drop, Option, Some, None, Result, ◌⊎◌, inl, inr, refl, sym, ap, ap₂, ◌∙◌, subst, arith, append_assoc, codes}
-use Rattle.std.specs.List.{AllByRecursion}
+use Rattle.std.proofs.Common.{◌≡◌, ℕ, pos, ◌≤◌, Bool, true, false, List, [], ◌∷◌, ◌++◌, length, get_or, drop, Option, Some, None, Result, ◌⊎◌, inl, inr, refl, sym, ap, ◌∙◌, subst, arith, append_assoc, codes}
 use Rattle.std.specs.Fmt.{decimal}
 use Rattle.std.proofs.lemmas.List.{append-nil, append_cancel_left}
 use Rattle.adg_base.specs.declared.value.Value.{Value}
 use Rattle.adg_base.specs.declared.value.Value.TheVariants.{Null, Int, Text}
 use Rattle.adg_base.specs.declared.command.Condition.{Condition}
 use Rattle.adg_base.specs.declared.command.Op.TheVariants as op
-use Rattle.adg_model.specs.Command.{literal_bytes, op_bytes, group_bytes, IsColumn, IsCondition, IsGroup}
+use Rattle.adg_model.specs.Command.{literal_bytes, op_bytes, group_bytes, IsColumn, IsCondition}
 use Rattle.query_text.specs.declared.tail.Next.{Next}
 use Rattle.query_text.specs.declared.tail.Next.TheVariants.{Test, Group}
 use Rattle.query_text.specs.declared.fault.Fault.{Fault}
 use Rattle.query_text.specs.Stopping.{first, Stops, Refuses, Spelled, Front, Takes, Reads, Anything}
 use Rattle.query_text.specs.Words.{IsMeant, Finds}
-use Rattle.query_text.specs.Parts.{EndsNumber, IsLiteral, EndsLiteral, EndsTest, spaced_op, test_bytes, tests_bytes, Tail, tail_bytes, IsGroupIn, IsTail, IsNext, next_bytes}
-use Rattle.query_text.proofs.Stopping.{heads, stops_in, stops_as, refuses}
-use Rattle.query_text.proofs.Tables.{IsTableOf, table_reads}
+use Rattle.query_text.specs.Parts.{EndsNumber, EndsLiteral, EndsTest, test_bytes, tests_bytes, Tail, tail_bytes, IsGroupIn, IsTail, IsNext, next_bytes}
+use Rattle.query_text.proofs.Stopping.{stops_in, stops_as, refuses}
+use Rattle.query_text.proofs.Tables.{table_reads}
 use Rattle.query_text.proofs.Literals.{no_null_int}
 use Rattle.query_text.proofs.Conditions.{test_laid, ends_same}
 use Rattle.query_text.proofs.Apart.{column_apart, op_apart, literal_apart}
@@ -80,9 +79,9 @@ second_byte word x (inr e) =
     (ap (λ l. get_or (l ++ x) 0 0) e, λ g. omega (arith, w, g))
 
 -- no group begins as a test does
-no_group : (grouped : Bool) (word x : List ℕ) (g : Option ℕ) → IsTestWord word → word ++ x ≡ group_bytes g → ⊥
-no_group grouped word x None w e = omega (arith, (second_byte word x w).0, ap (λ l. get_or l 0 0) e)
-no_group grouped word x (Some n) w e = (second_byte word x w).1 (ap (λ l. get_or l 1 0) e)
+no_group : (word x : List ℕ) (g : Option ℕ) → IsTestWord word → word ++ x ≡ group_bytes g → ⊥
+no_group word x None w e = omega (arith, (second_byte word x w).0, ap (λ l. get_or l 0 0) e)
+no_group word x (Some n) w e = (second_byte word x w).1 (ap (λ l. get_or l 1 0) e)
 
 tail_ends_for : (word : List ℕ) (cs : List Condition) (g : Option ℕ) → IsTestWord word → EndsNumber (tail_bytes word (cs, g))
 tail_ends_for word [] None w = tt
@@ -120,7 +119,7 @@ begins_test : (grouped : Bool) (word x : List ℕ) → IsTestWord word → Spell
 begins_test grouped word x w h = tail_cases h.value.0 h.value.1 h.good h.is
   where
     tail_cases : (cs : List Condition) (g : Option ℕ) → IsTail grouped (cs, g) → word ++ x ≡ tail_bytes word (cs, g) → BeginsTest grouped x
-    tail_cases [] g good e = absurd (no_group grouped word x g w e)
+    tail_cases [] g good e = absurd (no_group word x g w e)
     tail_cases (c ∷ cs) g good e = record { test = c; later = cs; group = g; good = good.0.0; later_good = (good.0.1, good.1); is = append_cancel_left word x (test_bytes c ++ tail_bytes and_word (cs, g)) (e ∙ tail_laid word c cs g) }
 
 alone : (grouped : Bool) (c : Condition) → IsCondition c → IsTail grouped (c ∷ [], None)
@@ -201,9 +200,6 @@ pub record HasTests (grouped : Bool) (all : List ℕ) (tests : List Condition) (
   pub stops : (left : ℕ) → TailStops grouped word text left → TailStops grouped (codes " WHERE c") all left
   pub gives : (t : Tail) → IsTail grouped t → text ≡ tail_bytes word t → IsTail grouped (tests ++ t.0, t.1) × (all ≡ tail_bytes (codes " WHERE c") (tests ++ t.0, t.1))
 
-pub no_tests : (grouped : Bool) (all : List ℕ) → HasTests grouped all [] (codes " WHERE c") all
-no_tests grouped all = record { next = inl refl; stops = λ left s. s; gives = λ t good is. (good, is) }
-
 pub more_tests : (grouped : Bool) (all : List ℕ) (tests : List Condition) (word text behind rest : List ℕ) (c : Condition) → HasTests grouped all tests word text → Takes Anything (IsNext grouped) (next_bytes word) text Test behind → Takes EndsTest IsCondition test_bytes behind c rest → HasTests grouped all (tests ++ c ∷ []) and_word rest
 more_tests grouped all tests word text behind rest c h t u =
     let is : text ≡ (word ++ test_bytes c) ++ rest = t.is ∙ ap (λ l. word ++ l) u.is ∙ sym (append_assoc word (test_bytes c) rest) in
@@ -238,7 +234,7 @@ group_ends_tail true all tests word text behind n h t g =
     subst (λ l. IsTail true (l, Some n) × (all ≡ tail_bytes (codes " WHERE c") (l, Some n))) (append-nil tests) r
 group_ends_tail false all tests word text behind n h t g = absurd (let i = t.good in cc)
 
-none_in : (grouped : Bool) → IsGroupIn grouped None
+pub none_in : (grouped : Bool) → IsGroupIn grouped None
 none_in true = tt
 none_in false = refl
 

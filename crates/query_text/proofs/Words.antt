@@ -1,9 +1,9 @@
 -- The words at the front of a text are found, and a text goes wrong where it parts from the last of them.
-use Rattle.std.proofs.Common.{◌≡◌, ℕ, ◌<◌, ◌≤◌, Bool, true, false, cond, eqb, List, [], ◌∷◌, ◌++◌, length, get_or, drop, min, Some, None, Result, Ok, Err, ◌⊎◌, inl, inr, refl, sym, ap, ap₂, ◌∙◌, subst, arith, append_assoc}
+use Rattle.std.proofs.Common.{◌≡◌, ℕ, ◌+◌, ◌<◌, ◌≤◌, Bool, true, false, cond, eqb, List, [], ◌∷◌, ◌++◌, length, get_or, drop, min, Result, Ok, Err, ◌⊎◌, inl, inr, refl, sym, ap, ap₂, ◌∙◌, subst, arith}
 use Rattle.std.proofs.lemmas.Bool.{eqb-true, eqb-false}
-use Rattle.std.proofs.lemmas.List.{append-nil, length-append, nil_from_length, drop_more}
-use Rattle.query_text.specs.Stopping.{first, Stops, Begins}
-use Rattle.query_text.specs.Words.{strip, or_else, found, IsWord, Means}
+use Rattle.std.proofs.lemmas.List.{append-nil, nil_from_length, drop_more, drop_all}
+use Rattle.query_text.specs.Stopping.{Stops, Begins}
+use Rattle.query_text.specs.Words.{strip, IsWord, IsFront, Means}
 use Rattle.query_text.proofs.Stopping.{heads, stops_in, stops_as, stops_either}
 
 -- ---- one word
@@ -68,6 +68,17 @@ strip_is (w ∷ word) (c ∷ text) rest e =
 
 -- ---- words
 
+-- What a word means and what is behind it; where it is not in front, what the others give.
+abbrev pub or_else : {T : Type 0} → T → Result (List ℕ) ℕ → (ℕ → Result (T × List ℕ) ℕ) → Result (T × List ℕ) ℕ
+or_else meaning (Ok rest) others = Ok (meaning, rest)
+or_else meaning (Err behind) others = others behind
+
+-- What the first of the words that a text begins with means, and what is behind it. Where it begins with
+-- none, the least that is left where it parts from one of them.
+abbrev pub found : {W T : Type 0} → (W → List ℕ) → List (W × T) → List ℕ → ℕ → Result (T × List ℕ) ℕ
+found now [] text left = Err left
+found now (e ∷ words) text left = or_else e.1 (strip (now e.0) text) (λ behind. found now words text (min left behind))
+
 -- what is found
 pub found_means : {W T : Type 0} (now : W → List ℕ) (words : List (W × T)) (text : List ℕ) (left : ℕ) (meaning : T) (rest : List ℕ) → found now words text left ≡ Ok (meaning, rest) → Means now words meaning text rest
 found_means now [] text left meaning rest e = absurd cc
@@ -79,11 +90,6 @@ found_means {W} {T} now (e ∷ words) text left meaning rest h =
         let p = same_value (e.1, x) (meaning, rest) g in
         inl (ap (λ (y : T × List ℕ). y.0) (sym p), strip_is (now e.0) text rest (s ∙ ap (λ y. got_as y) (ap (λ (y : T × List ℕ). y.1) p)))
     found_cases (Err behind) s g later = inr (later behind g)
-
--- what may stand in front
-abbrev pub IsFront : {W T : Type 0} → (W → List ℕ) → List (W × T) → List ℕ → Type 0
-IsFront now [] x = ⊥
-IsFront now (e ∷ words) x = Begins (now e.0) x ⊎ IsFront now words x
 
 left_of : {A B C : Type 0} → (A ⊎ B) ⊎ C → A ⊎ (B ⊎ C)
 left_of (inl (inl a)) = inl a
@@ -141,3 +147,13 @@ pub strip_short : (word text : List ℕ) (i : ℕ) (all : Result (List ℕ) ℕ)
 strip_short word text i all lt short e =
     let empty : text ≡ [] = nil_from_length text (omega arith) in
     sym e ∙ ap₂ (λ a b. strip a b) (drop_more word i 0 lt) empty
+
+pub none_found : {W T : Type 0} (now : W → List ℕ) (words : List (W × T)) (text : List ℕ) (left i : ℕ) → length words ≤ i → found now (drop i words) text left ≡ found now words text (length text) → Stops (λ x. (x ≡ []) ⊎ IsWord now words x) (IsFront now words) text left
+none_found now words text left i le e =
+    words_stop now words text left (sym e ∙ ap (λ l. found now l text left) (drop_all i words le))
+
+pub found_at : {W T : Type 0} (now : W → List ℕ) (words : List (W × T)) (text rest : List ℕ) (left i : ℕ) (e : W × T) → i < length words → e ≡ get_or words i e → strip (now e.0) text ≡ Ok rest → found now (drop i words) text left ≡ found now words text (length text) → Means now words e.1 text rest
+found_at {W} {T} now words text rest left i e lt is s h =
+    let here : drop i words ≡ e ∷ drop (i + 1) words = drop_more words i e lt ∙ ap (λ d. d ∷ drop (i + 1) words) (sym is) in
+    let first : found now (drop i words) text left ≡ Ok (e.1, rest) = ap (λ l. found now l text left) here ∙ ap (λ r. or_else e.1 r (λ behind. found now (drop (i + 1) words) text (min left behind))) s in
+    found_means now words text (length text) e.1 rest (sym h ∙ first)

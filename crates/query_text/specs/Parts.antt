@@ -1,5 +1,5 @@
 -- The parts of a command: what has a spelling, the spelling, and what may follow it.
-use Rattle.std.specs.Prelude.{◌≡◌, ◌≢◌, ℕ, ℤ, pos, ◌<◌, ◌≤◌, Bool, true, false, List, [], ◌∷◌, ◌++◌, length, Option, Some, None, Result, Ok, Err, codes}
+use Rattle.std.specs.Prelude.{◌≡◌, ◌≢◌, ℕ, ℤ, pos, ◌≤◌, Bool, true, false, List, [], ◌∷◌, ◌++◌, length, Option, None, Result, Ok, Err, codes}
 use Rattle.std.specs.List.{AllByRecursion}
 use Rattle.std.specs.Fmt.{decimal}
 use Rattle.adg_base.specs.declared.value.Value.{Value}
@@ -7,8 +7,7 @@ use Rattle.adg_base.specs.declared.value.Value.TheVariants.{Null, Int, Text}
 use Rattle.adg_base.specs.declared.command.Select.{Select}
 use Rattle.adg_base.specs.declared.command.Condition.{Condition}
 use Rattle.adg_base.specs.declared.command.Op.{Op}
-use Rattle.adg_base.specs.declared.command.What.{What}
-use Rattle.adg_base.specs.declared.command.What.TheVariants.{All, Aggregates}
+use Rattle.adg_base.specs.declared.command.What.TheVariants.{All}
 use Rattle.adg_base.specs.declared.command.Aggregate.{Aggregate}
 use Rattle.adg_base.specs.declared.command.Command.{Command}
 use Rattle.query_text.specs.declared.fault.Fault.{Fault}
@@ -22,7 +21,7 @@ use Rattle.query_text.specs.declared.aggregate.Behind.TheVariants as behind
 use Rattle.query_text.specs.declared.read.Verb.{Verb}
 use Rattle.query_text.specs.declared.read.Verb.TheVariants as verb
 use Rattle.adg_model.specs.Spelling.{IsObj, IsValue}
-use Rattle.adg_model.specs.Command.{literal_bytes, op_bytes, aggregates_bytes, where_bytes, group_bytes, what_bytes, IsAggregate, IsCondition, IsGroup, IsSelect}
+use Rattle.adg_model.specs.Command.{literal_bytes, op_bytes, aggregates_bytes, group_bytes, what_bytes, IsAggregate, IsCondition, IsGroup, IsSelect}
 
 abbrev pub IsDigit : ℕ → Type 0
 IsDigit c = (48 ≤ c) × (c ≤ 57)

@@ -1,5 +1,3 @@
-use Rattle.std.proofs.Common.{◌≡◌, length, ap}
-use Rattle.query_text.specs.Stopping.{first}
 use Rattle.query_text.proofs.Literals.{text_stops}
 use Rattle.query_text.proofs.literal.text_of.Goals as goal
 

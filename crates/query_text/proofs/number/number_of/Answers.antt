@@ -1,4 +1,4 @@
-use Rattle.query_text.proofs.Numbers.{more_digits, digit_stops, no_digits, whole_number}
+use Rattle.query_text.proofs.Numbers.{more_digits, digit_stops, no_digits}
 use Rattle.query_text.proofs.number.number_of.Goals as goal
 
 pub returns-in-None : goal.returns-in-None

@@ -1,5 +1,5 @@
 use Rattle.std.proofs.Common.{◌≡◌, drop, length}
-use Rattle.query_text.specs.Words.{found}
+use Rattle.query_text.proofs.Words.{found}
 use Rattle.query_text.proofs.word.word_of.Given as goal
 
 abbrev pub invariant-loop-word : goal.invariant-loop-word
