@@ -1,5 +1,5 @@
 -- What `take` asks for is so where the delivery comes next in a feed.
-use Rattle.std.proofs.Common.{◌≡◌, ◌+◌, ◌≤◌, ◌<◌, ◌==◌, ◌^◌, ℕ, Bool, true, false, List, [], ◌∷◌, ◌++◌, length, map, length-append, ap, sym, subst, arith, if◌then◌else◌}
+use Rattle.std.proofs.Common.{◌+◌, ◌≤◌, ◌<◌, ◌==◌, ◌^◌, ℕ, Bool, true, false, List, [], ◌∷◌, ◌++◌, length, map, length-append, ap, sym, subst, arith, if◌then◌else◌}
 use Rattle.std.specs.List.{AllByRecursion, flat_map, filter_map}
 use Rattle.std.proofs.lemmas.List.Sums.{sum_by-cons}
 use Rattle.adg_model.specs.declared.delivery.RawDelivery.{RawDelivery}
