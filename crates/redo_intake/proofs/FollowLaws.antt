@@ -66,8 +66,7 @@ below-more log x (e ∷ es) h k = (each-append (λ (b : LogEntry). b.scn ≤ e.s
 follow-numbered : (log es : List LogEntry) (pos : ℕ) → pos ≡ length log → AreSpelled es → ScnsRise es → IsBelow log es → FollowOn log (numbered pos es)
 follow-numbered log [] pos at spelled rise below = tt
 follow-numbered log (e ∷ es) pos at spelled rise below =
-    let x : LogEntry = record e { pos = pos } in
-    (
+    let x : LogEntry = record e { pos = pos } in (
       record { spelled = spelled.0; place = at; scn = below.0 },
       follow-numbered (log ++ x ∷ []) es (pos + 1) (omega (arith, at, length-append log (x ∷ []))) spelled.1 rise.1 (below-more log x es below.1 rise.0),
     )

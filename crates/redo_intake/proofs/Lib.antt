@@ -3,3 +3,4 @@ pub mod UnsoundLaws
 pub mod PieceLaws
 pub mod NothingLaws
 pub mod IntakeLaws
+pub mod RoomLaws

@@ -44,6 +44,7 @@ fn accept_all(merger: &mut Merger, pieces: &[RedoPiece]) -> Result<(), Memory>
         Merges merger.new (texts_with deliveries pieces.now) given) }
     ensures threads { length merger.new.threads ≡ length merger.old.threads }
     ensures refused { merger.new.refused ≡ merger.old.refused }
+    ensures number { highest_number merger.new ≤ highest_number merger.old + length (bytes_of pieces.now) }
 {
     for piece in pieces {
         merger.accept(piece.thread, piece.bytes.as_slice())?;
@@ -86,6 +87,7 @@ impl RedoIntake {
     /// An intake of so many threads that has taken nothing.
     pub fn new(alloc: Global, threads: u8) -> Result<RedoIntake, Memory>
         ensures taken { IfOk result (λ intake. HasTaken intake threads []) }
+        ensures threads { IfOk result (λ intake. length intake.merger.threads ≡ threads) }
         ensures number { IfOk result (λ intake. highest_number intake.merger ≤ 1) }
     {
         Ok(RedoIntake {
@@ -99,7 +101,9 @@ impl RedoIntake {
     pub fn take(&mut self, delivery: RawDelivery) -> Result<CheckedDelivery, IntakeRefused>
         requires threads { AllByRecursion (λ piece. IsIn (length self.old.merger.threads) piece.thread) delivery.pieces }
         requires room { highest_number self.old.merger + length (bytes_of delivery.pieces) < 2 ^ 64 }
-        ensures { (threads : ℕ) (deliveries : List Delivery) (before : HasTaken self.old threads deliveries) → TakesOne before self.new delivery result }
+        ensures takes { (threads : ℕ) (deliveries : List Delivery) (before : HasTaken self.old threads deliveries) → TakesOne before self.new delivery result }
+        ensures threads { length self.new.merger.threads ≡ length self.old.merger.threads }
+        ensures number { highest_number self.new.merger ≤ highest_number self.old.merger + length (bytes_of delivery.pieces) }
     {
         let RawDelivery {
             pieces,
@@ -107,6 +111,7 @@ impl RedoIntake {
             schedule,
         } = delivery;
         accept_all(&mut self.merger, pieces.as_slice())?;
+        drop(pieces);
         let entries = self.merger.drain()?;
         check_all(&mut self.dictionary, entries.as_slice())?;
         Ok(CheckedDelivery {

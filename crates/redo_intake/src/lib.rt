@@ -4,6 +4,8 @@
 
 mod intake;
 mod refused;
+#[cfg(test)]
+mod tests;
 
 pub use intake::RedoIntake;
 pub use refused::IntakeRefused;

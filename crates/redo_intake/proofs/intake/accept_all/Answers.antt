@@ -28,3 +28,12 @@ loop-piece-preserved c =
       threads = c.in_ok-accept.ensures.threads ∙ inv.threads;
       refused = c.in_ok-accept.ensures.refused ∙ inv.refused;
     }
+
+pub returns-in_err-accept-clause-number : goal.returns-in_err-accept-clause-number
+returns-in_err-accept-clause-number c =
+    let ps = c.args.pieces.now in
+    let i = c.loop-piece.piece-index in
+    let more = bytes-more ps i c.piece-item.result c.loop-piece-test.true in
+    let within = bytes-within (i + 1) ps in
+    let bytes = ap (λ (l : List ℕ). length l) (c.as_slice.ensures ∙ ap (λ (p : RedoPiece). p.bytes) c.piece-item.is) in
+    omega (arith, c.loop-piece.invariant.number, c.in_err-accept.ensures.number, more, within, bytes)

@@ -1,6 +1,5 @@
-use Rattle.std.proofs.Common.{◌++◌, List, take, subst}
+use Rattle.std.proofs.Common.{◌++◌, take, subst}
 use Rattle.std.proofs.lemmas.Result.{err_from_is_err_and}
-use Rattle.adg_base.specs.declared.log.LogEntry.{LogEntry}
 use Rattle.dictionary.specs.Standing.{StandsFor}
 use Rattle.redo_intake.proofs.UnsoundLaws.{one-more, follow-one, unsound-one}
 use Rattle.redo_intake.proofs.intake.check_all.Goals as goal

@@ -1,4 +1,4 @@
-use Rattle.std.proofs.Common.{◌≡◌, ◌++◌, ◌∷◌, [], List, Err, refl, ap, sym, subst, ◌∙◌}
+use Rattle.std.proofs.Common.{◌++◌, ◌∷◌, [], List, Err, refl, ap, sym, subst, ◌∙◌}
 use Rattle.std.proofs.lemmas.Result.{err_from_is_err_and}
 use Rattle.adg_base.specs.declared.log.LogEntry.{LogEntry}
 use Rattle.adg_model.specs.Log.{merged_log}
@@ -8,8 +8,8 @@ use Rattle.redo_intake.specs.Intake.{Taking, FollowOn, IsUnsoundAt}
 use Rattle.redo_intake.proofs.IntakeLaws.{accepted, bad-so, merged-so, entries-follow, unsound-so, checked-so}
 use Rattle.redo_intake.proofs.intake.RedoIntake.take.Goals as goal
 
-pub returns-in_err-entries : goal.returns-in_err-entries
-returns-in_err-entries c threads ds before =
+pub returns-in_err-entries-clause-takes : goal.returns-in_err-entries-clause-takes
+returns-in_err-entries-clause-takes c threads ds before =
     let p = err_from_is_err_and c.from_residual-in_err-entries.result c.from_residual-in_err-entries.ensures.1 in
     let d = c.args.delivery in
     let old = c.args.self.now in
@@ -19,8 +19,8 @@ returns-in_err-entries c threads ds before =
     let a = accepted old threads ds d before c.self.inside.merger m c.as_slice.result.now (ap (λ (t : Taking). t.merger) c.self.view_is) c.as_slice.ensures e.stands e.threads e.refused in
     rw p.1 (rw p.2 (bad-so old threads ds d before m n (record { merger = n; dictionary = c.self.inside.dictionary }) c.in_err-entries.field-0.0 a (c.in_err-entries.ensures.drains (texts_of (ds ++ d ∷ [])) (merged_log before.records) a.stands)))
 
-pub returns-in_err-check_all : goal.returns-in_err-check_all
-returns-in_err-check_all c threads ds before =
+pub returns-in_err-check_all-clause-takes : goal.returns-in_err-check_all-clause-takes
+returns-in_err-check_all-clause-takes c threads ds before =
     let p = err_from_is_err_and c.from_residual-in_err-check_all.result c.from_residual-in_err-check_all.ensures.1 in
     let d = c.args.delivery in
     let old = c.args.self.now in
@@ -37,8 +37,8 @@ returns-in_err-check_all c threads ds before =
     rw p.1 (rw p.2 (unsound-so old threads ds d before entries merged (record { merger = n; dictionary = c.check_all.new.dictionary }) c.in_err-check_all.field-0.0
     (λ fault is. subst (λ (l : List LogEntry). IsUnsoundAt given l fault) slice (c.in_err-check_all.ensures.bad fault (ap Err is) given known follow))))
 
-pub returns : goal.returns
-returns c threads ds before =
+pub returns-clause-takes : goal.returns-clause-takes
+returns-clause-takes c threads ds before =
     let d = c.args.delivery in
     let old = c.args.self.now in
     let m = c.accept_all.new.merger in
