@@ -1,7 +1,9 @@
 //! Where the group of each key stands.
 
 ghost use Rattle.std.specs.Prelude.{◌≡◌, if◌then◌else◌, None, Some, OnOk};
-ghost use Rattle.scan_eval.specs.Shown.{shown};
+ghost use Rattle.adg_base.specs.declared.value.Value.{Value as Datum};
+ghost use Rattle.scan_eval.specs.Shown.{shown, same};
+ghost use Rattle.scan_eval.specs.KeyIndex.{place_at};
 
 use crate::value_ref::ValueRef;
 use adg_base::memory::Memory;
@@ -18,7 +20,9 @@ pub struct KeyIndex {
 
 impl KeyIndex {
     /// No key has a place.
-    pub fn new(alloc: Global) -> KeyIndex {
+    pub fn new(alloc: Global) -> KeyIndex
+        ensures { (key : Datum) → place_at result key ≡ None }
+    {
         KeyIndex {
             null: None,
             numbers: HashMap::new(alloc),
@@ -27,7 +31,9 @@ impl KeyIndex {
     }
 
     /// The place of a key.
-    pub fn find(&self, key: ValueRef<'_>) -> Option<usize> {
+    pub fn find(&self, key: ValueRef<'_>) -> Option<usize>
+        ensures { result ≡ place_at self.now (shown key.entry) }
+    {
         match key {
             ValueRef::Null => self.null,
             ValueRef::Int(number) => self.numbers.get(&number).copied(),
@@ -41,7 +47,9 @@ impl KeyIndex {
         alloc: Global,
         key: ValueRef<'_>,
         place: usize,
-    ) -> Result<(), Memory> {
+    ) -> Result<(), Memory>
+        ensures { OnOk result ((k : Datum) → place_at self.new k ≡ (if same k (shown key.entry) then Some place else place_at self.old k)) }
+    {
         match key {
             ValueRef::Null => self.null = Some(place),
             ValueRef::Int(number) => {

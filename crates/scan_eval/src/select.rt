@@ -17,7 +17,10 @@ pub fn select(
     rows: &RowList,
     select: &Select,
     def: &Definition,
-) -> Result<Answer, QueryRefused> {
+) -> Result<Answer, QueryRefused>
+    ensures answer { IfOk result (λ answer. answer ≡ select_lines select.now rows.now) }
+    ensures refused { Follows (admission select.now (table_of def.now)) result }
+{
     let mut accumulator = Accumulator::new(alloc, select, def)?;
     for row in rows.as_slice() {
         accumulator.add(alloc, row)?;

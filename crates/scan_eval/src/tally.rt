@@ -1,10 +1,11 @@
 //! What is kept of rows for one aggregate of them.
 
-ghost use Rattle.std.specs.Prelude.{◌≡◌, ◌+◌, ◌<◌, ◌^◌, map, length, slice_index, List, IfOk, OnOk};
-ghost use Rattle.std.specs.List.{All};
-ghost use Rattle.adg_model.specs.Query.{cell_of};
+ghost use Rattle.std.specs.Prelude.{◌≡◌, ◌+◌, ◌<◌, ◌^◌, ◌++◌, [], map, length, IfOk, OnOk};
+ghost use Rattle.std.specs.List.{All, AllZip, zip};
 ghost use Rattle.scan_eval.specs.Shown.{shown};
-ghost use Rattle.scan_eval.specs.Tally.{size_of};
+ghost use Rattle.scan_eval.specs.Summed.{summed, with_term, joined};
+ghost use Rattle.scan_eval.specs.Tally as tally;
+ghost use Rattle.scan_eval.specs.Tally.{tally_of, tallies_of, with_row, with_tally, size_of, sum_cell_of, tally_cell, lesser, greater};
 
 use crate::condition::value_in;
 use crate::value_ref::{RowView, ValueRef};
@@ -13,7 +14,6 @@ use adg_base::command::Aggregate;
 use adg_base::memory::Memory;
 use adg_base::value::Value;
 use std::alloc::Global;
-use std::cmp::Ordering;
 use std::marker::Model;
 
 /// The sum of integers, and how many they are. It can't overflow before `2^64` of them.
@@ -21,6 +21,16 @@ use std::marker::Model;
 pub struct RunningSum {
     terms: u64,
     amount: i128,
+}
+
+impl Model for RunningSum {
+    ghost use Rattle.scan_eval.specs.Summed.{Summed, IsBounded};
+
+    ghost Value = { Summed };
+
+    ghost view = { λ s. record { terms = s.terms; amount = s.amount } };
+
+    ghost invariant = { λ s. IsBounded s.terms s.amount };
 }
 
 /// What is kept of the rows so far for one aggregate.
@@ -35,15 +45,20 @@ pub enum Tally {
 }
 
 impl RunningSum {
-    fn new() -> RunningSum {
+    fn new() -> RunningSum
+        ensures { result ≡ summed [] }
+    {
         RunningSum {
             terms: 0,
             amount: 0,
         }
     }
 
-    /// One term more. A text counts as a term of 0.
-    fn add(&mut self, term: ValueRef<'_>) {
+    /// One term more, where there is a value. A text counts as a term of 0.
+    fn add(&mut self, term: ValueRef<'_>)
+        requires { self.old.terms + 1 < 2 ^ 64 }
+        ensures { self.new ≡ with_term self.old (shown term.entry) }
+    {
         match term {
             ValueRef::Null => {}
             ValueRef::Int(number) => {
@@ -54,13 +69,19 @@ impl RunningSum {
         }
     }
 
-    fn join(&mut self, other: &RunningSum) {
+    /// The terms of another besides its own.
+    fn join(&mut self, other: &RunningSum)
+        requires { self.old.terms + other.now.terms < 2 ^ 64 }
+        ensures { self.new ≡ joined self.old other.now }
+    {
         self.terms += other.terms;
         self.amount += other.amount;
     }
 
     /// The sum, none of no terms.
-    fn cell(&self) -> Cell {
+    fn cell(&self) -> Cell
+        ensures { result ≡ sum_cell_of self.now }
+    {
         if self.terms == 0 {
             Cell::Null
         } else {
@@ -71,7 +92,9 @@ impl RunningSum {
 
 impl Tally {
     /// The tally of no rows.
-    pub fn new(aggregate: Aggregate) -> Tally {
+    pub fn new(aggregate: Aggregate) -> Tally
+        ensures { result ≡ tally_of [] aggregate }
+    {
         match aggregate {
             Aggregate::Count => Tally::Count(0),
             Aggregate::Sum(column) => Tally::Sum(column, RunningSum::new()),
@@ -81,7 +104,10 @@ impl Tally {
     }
 
     /// The tally with one row more.
-    fn add<R: RowView>(&mut self, alloc: Global, row: &R) -> Result<(), Memory> {
+    fn add<R: RowView>(&mut self, alloc: Global, row: &R) -> Result<(), Memory>
+        requires { size_of self.old + 1 < 2 ^ 64 }
+        ensures { OnOk result (self.new ≡ with_row (R.values row.now) self.old) }
+    {
         match self {
             Tally::Count(count) => *count += 1,
             Tally::Sum(column, sum) => sum.add(value_in(row, *column)),
@@ -91,8 +117,11 @@ impl Tally {
         Ok(())
     }
 
-    /// The tally of the rows of both, of which `other` has the later ones.
-    fn join(&mut self, alloc: Global, other: &Tally) -> Result<(), Memory> {
+    /// The tally with the rows of another of the same aggregate.
+    fn join(&mut self, alloc: Global, other: &Tally) -> Result<(), Memory>
+        requires { size_of self.old + size_of other.now < 2 ^ 64 }
+        ensures { OnOk result (self.new ≡ with_tally self.old other.now) }
+    {
         match (self, other) {
             (Tally::Count(count), Tally::Count(more)) => *count += more,
             (Tally::Sum(_, sum), Tally::Sum(_, more)) => sum.join(more),
@@ -108,7 +137,9 @@ impl Tally {
     }
 
     /// The cell that prints it.
-    fn to_cell(&self, alloc: Global) -> Result<Cell, Memory> {
+    fn to_cell(&self, alloc: Global) -> Result<Cell, Memory>
+        ensures { IfOk result (λ cell. cell ≡ tally_cell self.now) }
+    {
         match self {
             Tally::Count(count) => Ok(Cell::Number(i128::from(*count))),
             Tally::Sum(_, sum) => Ok(sum.cell()),
@@ -120,48 +151,63 @@ impl Tally {
 }
 
 /// Takes a value in place of a least one that is greater or not there.
-fn lower(alloc: Global, least: &mut Value, value: ValueRef<'_>) -> Result<(), Memory> {
+fn lower(alloc: Global, least: &mut Value, value: ValueRef<'_>) -> Result<(), Memory>
+    ensures { OnOk result (least.new ≡ lesser least.old (shown value.entry)) }
+{
     if is_lower(value, ValueRef::of(least)) {
         *least = value.to_value(alloc)?;
     }
     Ok(())
 }
 
-fn is_lower(value: ValueRef<'_>, least: ValueRef<'_>) -> bool {
+fn is_lower(value: ValueRef<'_>, least: ValueRef<'_>) -> bool
+    ensures { result ≡ tally.is_lower (shown value.entry) (shown least.entry) }
+{
     match (value, least) {
         (ValueRef::Null, _) => false,
-        (_, ValueRef::Null) => true,
-        _ => value.compare(least).is_lt(),
+        (ValueRef::Int(_) | ValueRef::Text(_), ValueRef::Null) => true,
+        (ValueRef::Int(_) | ValueRef::Text(_), ValueRef::Int(_) | ValueRef::Text(_)) => {
+            value.compare(least).is_lt()
+        }
     }
 }
 
 /// Takes a value in place of a greatest one that is less or not there.
-fn raise(alloc: Global, greatest: &mut Value, value: ValueRef<'_>) -> Result<(), Memory> {
+fn raise(alloc: Global, greatest: &mut Value, value: ValueRef<'_>) -> Result<(), Memory>
+    ensures { OnOk result (greatest.new ≡ tally.greater greatest.old (shown value.entry)) }
+{
     if value.compare(ValueRef::of(greatest)).is_gt() {
         *greatest = value.to_value(alloc)?;
     }
     Ok(())
 }
 
-/// The tallies of no rows.
-pub fn empty_tallies(alloc: Global, aggregates: &[Aggregate]) -> Result<Vec<Tally>, Memory> {
-    let mut tallies = Vec::with_capacity(alloc, aggregates.len())?;
+/// Adds the tallies of no rows.
+pub fn add_empty(aggregates: &[Aggregate], tallies: &mut Vec<Tally>) -> Result<(), Memory>
+    ensures { OnOk result (tallies.new.items ≡ tallies.old.items ++ tallies_of aggregates.now []) }
+{
     for aggregate in aggregates {
         tallies.push(Tally::new(*aggregate))?;
     }
-    Ok(tallies)
+    Ok(())
 }
 
 /// Each tally with one row more.
-pub fn add_row<R: RowView>(alloc: Global, tallies: &mut [Tally], row: &R) -> Result<(), Memory> {
+pub fn add_row<R: RowView>(alloc: Global, tallies: &mut [Tally], row: &R) -> Result<(), Memory>
+    requires { All (λ t. size_of t + 1 < 2 ^ 64) tallies.old }
+    ensures { OnOk result (tallies.new ≡ map (with_row (R.values row.now)) tallies.old) }
+{
     for tally in tallies.iter_mut() {
         tally.add(alloc, row)?;
     }
     Ok(())
 }
 
-/// Each tally with the rows of another of its aggregate, which come later.
-pub fn join_all(alloc: Global, tallies: &mut [Tally], others: &[Tally]) -> Result<(), Memory> {
+/// Each tally with the rows of another of the same aggregate.
+pub fn join_all(alloc: Global, tallies: &mut [Tally], others: &[Tally]) -> Result<(), Memory>
+    requires { AllZip (λ t u. size_of t + size_of u < 2 ^ 64) tallies.old others.now }
+    ensures { OnOk result (tallies.new ≡ map (λ p. with_tally p.0 p.1) (zip tallies.old others.now)) }
+{
     for (index, tally) in tallies.iter_mut().enumerate() {
         tally.join(alloc, &others[index])?;
     }
@@ -169,7 +215,9 @@ pub fn join_all(alloc: Global, tallies: &mut [Tally], others: &[Tally]) -> Resul
 }
 
 /// Adds the cells that print tallies.
-pub fn add_cells(alloc: Global, cells: &mut Vec<Cell>, tallies: &[Tally]) -> Result<(), Memory> {
+pub fn add_cells(alloc: Global, cells: &mut Vec<Cell>, tallies: &[Tally]) -> Result<(), Memory>
+    ensures { OnOk result (cells.new.items ≡ cells.old.items ++ map tally_cell tallies.now) }
+{
     for tally in tallies {
         cells.push(tally.to_cell(alloc)?)?;
     }
