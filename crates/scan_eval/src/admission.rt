@@ -1,4 +1,4 @@
-ghost use Rattle.std.specs.Prelude.{◌≡◌, nat_le, option_to_list};
+ghost use Rattle.std.specs.Prelude.{◌≡◌, nat_le, option_to_list, take};
 ghost use Rattle.std.specs.List.{list_all};
 ghost use Rattle.adg_model.specs.Defined.{table_of};
 ghost use Rattle.adg_model.specs.Query as query;
@@ -50,8 +50,15 @@ pub fn admit(select: &Select, def: &Definition) -> Result<(), QueryRefused>
 fn kinds_of(def: &Definition) -> &[ColKind]
     ensures { result.now ≡ (table_of def.now).kinds }
 {
-    let width = usize::from(def.width).min(def.kinds.len());
-    &def.kinds[..width]
+    at_most(usize::from(def.width), &def.kinds)
+}
+
+/// The first kinds, at most so many.
+fn at_most(count: usize, kinds: &[ColKind]) -> &[ColKind]
+    ensures { result.now ≡ take count kinds.now }
+{
+    let count = count.min(kinds.len());
+    &kinds[..count]
 }
 
 fn has_columns(select: &Select, def: &Definition) -> bool

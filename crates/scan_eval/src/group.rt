@@ -163,7 +163,7 @@ impl Groups {
         key: ValueRef<'_>,
     ) -> Result<usize, Memory>
         requires groups { AreGroups aggregates.now self.old }
-        requires new { list_any (same (shown key.entry)) self.old.keys.items ≡ false }
+        requires fresh { list_any (same (shown key)) self.old.keys.items ≡ false }
         ensures parts { OnOk result (AreTallied aggregates.now self.new) }
         ensures place { IfOk result (λ place. place ≡ length self.old.keys.items) }
         ensures keys { OnOk result (self.new.keys.items ≡ self.old.keys.items ++ shown key.entry ∷ []) }

@@ -1,0 +1,3 @@
+pub mod Writes
+pub mod TextKeys
+pub mod ValueOrder
