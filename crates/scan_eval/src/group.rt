@@ -13,7 +13,7 @@ ghost use Rattle.scan_eval.specs.Groups.{AreGroups, AreTallied, AreInOrder, keys
 use crate::condition::value_in;
 use crate::key_index::KeyIndex;
 use crate::seen::Seen;
-use crate::tally::{Tally, add_cells, add_empty, add_row, join_all};
+use crate::tally::{Tally, add_cells, add_empty, add_row_at, join_all_at, part};
 use crate::value_ref::{RowView, ValueRef};
 use adg_base::answer::{Answer, Cell, CellList};
 use adg_base::command::Aggregate;
@@ -74,7 +74,7 @@ impl Groups {
         let place = self.place_of(alloc, aggregates, value_in(row, self.column))?;
         let from = place * aggregates.len();
         let to = from + aggregates.len();
-        add_row(alloc, &mut self.tallies[from..to], row)?;
+        add_row_at(alloc, self.tallies.as_mut_slice(), from, to, row)?;
         self.seen = Seen::of(&(&self.seen, row));
         Ok(())
     }
@@ -125,11 +125,8 @@ impl Groups {
         let to = from + aggregates.len();
         let first = index * aggregates.len();
         let end = first + aggregates.len();
-        join_all(
-            alloc,
-            &mut self.tallies[from..to],
-            &others.tallies[first..end],
-        )?;
+        let more = part(others.tallies.as_slice(), first, end);
+        join_all_at(alloc, self.tallies.as_mut_slice(), from, to, more)?;
         self.seen = Seen::of(&(&self.seen, others, key));
         Ok(())
     }
@@ -223,7 +220,7 @@ fn line_of(
     let from = place.place * width;
     let mut cells = Vec::with_capacity(alloc, 1 + width)?;
     cells.push(into_cell(place.key))?;
-    add_cells(alloc, &mut cells, &tallies[from..from + width])?;
+    add_cells(alloc, &mut cells, part(tallies, from, from + width))?;
     Ok(List::from_vec(cells))
 }
 

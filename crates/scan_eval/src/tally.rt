@@ -1,6 +1,6 @@
 //! What is kept of rows for one aggregate of them.
 
-ghost use Rattle.std.specs.Prelude.{◌≡◌, ◌+◌, ◌<◌, ◌^◌, ◌++◌, [], map, length, IfOk, OnOk};
+ghost use Rattle.std.specs.Prelude.{◌≡◌, ◌+◌, ◌-◌, ◌<◌, ◌≤◌, ◌^◌, ◌++◌, [], map, length, take, drop, IfOk, OnOk};
 ghost use Rattle.std.specs.List.{All, AllZip, zip};
 ghost use Rattle.scan_eval.specs.Shown.{shown};
 ghost use Rattle.scan_eval.specs.Summed.{summed, with_term, joined};
@@ -212,6 +212,47 @@ pub fn join_all(alloc: Global, tallies: &mut [Tally], others: &[Tally]) -> Resul
         tally.join(alloc, &others[index])?;
     }
     Ok(())
+}
+
+/// Each tally in a part of a list with one row more.
+pub fn add_row_at<R: RowView>(
+    alloc: Global,
+    tallies: &mut [Tally],
+    from: usize,
+    to: usize,
+    row: &R,
+) -> Result<(), Memory>
+    requires order { from ≤ to }
+    requires within { to ≤ length tallies.old }
+    requires room { All (λ t. size_of t + 1 < 2 ^ 64) (take (to - from) (drop from tallies.old)) }
+    ensures { OnOk result (tallies.new ≡ take from tallies.old ++ map (with_row (R.values row.now)) (take (to - from) (drop from tallies.old)) ++ drop to tallies.old) }
+{
+    add_row(alloc, &mut tallies[from..to], row)
+}
+
+/// Each tally in a part of a list with the rows of another of the same aggregate.
+pub fn join_all_at(
+    alloc: Global,
+    tallies: &mut [Tally],
+    from: usize,
+    to: usize,
+    others: &[Tally],
+) -> Result<(), Memory>
+    requires order { from ≤ to }
+    requires within { to ≤ length tallies.old }
+    requires room { AllZip (λ t u. size_of t + size_of u < 2 ^ 64) (take (to - from) (drop from tallies.old)) others.now }
+    ensures { OnOk result (tallies.new ≡ take from tallies.old ++ map (λ p. with_tally p.0 p.1) (zip (take (to - from) (drop from tallies.old)) others.now) ++ drop to tallies.old) }
+{
+    join_all(alloc, &mut tallies[from..to], others)
+}
+
+/// A part of a list.
+pub fn part(tallies: &[Tally], from: usize, to: usize) -> &[Tally]
+    requires order { from ≤ to }
+    requires within { to ≤ length tallies.now }
+    ensures { result.now ≡ take (to - from) (drop from tallies.now) }
+{
+    &tallies[from..to]
 }
 
 /// Adds the cells that print tallies.
