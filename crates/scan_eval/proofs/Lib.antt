@@ -1,5 +1,7 @@
 pub mod Writes
 pub mod Best
+pub mod GroupLaws
+pub mod Places
 pub mod TallyLaws
 pub mod TextKeys
 pub mod ValueOrder
