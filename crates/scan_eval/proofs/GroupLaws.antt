@@ -20,7 +20,7 @@ use Rattle.scan_eval.specs.Groups.{keys_with}
 use Rattle.scan_eval.proofs.ValueOrder.{same_equiv, same_itself, same_is}
 use Rattle.scan_eval.proofs.Places.{front_of, middle_of, back_of, length_pieces, three_parts}
 
-abbrev Row : Type 0
+abbrev pub Row : Type 0
 Row = List Value
 
 -- a key is that of a row
@@ -172,6 +172,15 @@ has_part aggregates c rows k keys place tallies a tallied =
       within = omega (arith, whole);
       part = ap₂ (λ (m : ℕ) (ts : List Tally). take m (drop n ts)) (omega arith) three ∙ middle_of n w (flat_map f a.front) (f k) (flat_map f a.back) first (wide k);
     }
+
+-- rows with a key are no more than all
+pub fewer_with : (c : ℕ) (k : Value) (rows : List Row) → length (rows_with c k rows) ≤ length rows
+fewer_with c k [] = omega arith
+fewer_with c k (row ∷ rows) = by_first (same (value_in c row) k) (fewer_with c k rows)
+  where
+    by_first : (b : Bool) → length (rows_with c k rows) ≤ length rows → length (cond b (row ∷ rows_with c k rows) (rows_with c k rows)) ≤ length (row ∷ rows)
+    by_first true few = omega (arith, few)
+    by_first false few = omega (arith, few)
 
 -- The part is written anew, and the tallies are those of the rows with the block.
 pub grown : (aggregates : List Aggregate) (c : ℕ) (rows block : List Row) (k : Value) (keys : List Value) (place : ℕ) (tallies ts : List Tally) → IsBlock c k block → Around k keys place → tallies ≡ flat_map (line aggregates c rows) keys → ts ≡ tallies_of aggregates (rows_with c k rows ++ block) →

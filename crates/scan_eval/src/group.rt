@@ -72,9 +72,9 @@ impl Groups {
         ensures seen { OnOk result (self.new.seen.rows ≡ self.old.seen.rows ++ R.values row.now ∷ []) }
     {
         let place = self.place_of(alloc, aggregates, value_in(row, self.column))?;
+        let tallies = self.tallies.as_mut_slice();
         let from = place * aggregates.len();
-        let to = from + aggregates.len();
-        add_row_at(alloc, self.tallies.as_mut_slice(), from, to, row)?;
+        add_row_at(alloc, tallies, from, from + aggregates.len(), row)?;
         self.seen = Seen::of(&(&self.seen, row));
         Ok(())
     }
@@ -121,14 +121,22 @@ impl Groups {
     {
         let key = ValueRef::of(&others.keys[index]);
         let place = self.place_of(alloc, aggregates, key)?;
+        let tallies = self.tallies.as_mut_slice();
         let from = place * aggregates.len();
-        let to = from + aggregates.len();
-        let first = index * aggregates.len();
-        let end = first + aggregates.len();
-        let more = part(others.tallies.as_slice(), first, end);
-        join_all_at(alloc, self.tallies.as_mut_slice(), from, to, more)?;
+        let more = others.tallies_at(index, aggregates.len());
+        join_all_at(alloc, tallies, from, from + aggregates.len(), more)?;
         self.seen = Seen::of(&(&self.seen, others, key));
         Ok(())
+    }
+
+    /// The tallies of the key at an index, which are so many.
+    fn tallies_at(&self, index: usize, width: usize) -> &[Tally]
+        requires { index * width + width ≤ length self.now.tallies.items }
+        ensures { result.now ≡ take width (drop (index * width) self.now.tallies.items) }
+    {
+        let tallies = self.tallies.as_slice();
+        let from = index * width;
+        part(tallies, from, from + width)
     }
 
     /// The place of a key, which is given one where it has none.
@@ -179,11 +187,12 @@ impl Groups {
         requires { AreGroups aggregates.now self }
         ensures { IfOk result (λ lines. lines ≡ group_lines aggregates.now self.column self.seen.rows) }
     {
+        let width = aggregates.len();
         let places = in_order(alloc, self.keys)?;
+        let tallies = self.tallies.as_slice();
         let mut lines = Vec::with_capacity(alloc, places.len())?;
         for place in places {
-            let line = line_of(alloc, place, self.tallies.as_slice(), aggregates.len())?;
-            lines.push(line)?;
+            lines.push(line_of(alloc, place, tallies, width)?)?;
         }
         Ok(List::from_vec(lines))
     }
