@@ -136,6 +136,24 @@ around k keys place distinct at =
     let apart = distinct_around (take place keys) k (drop (suc place) keys) (subst (IsDistinct same) cut distinct) in
     record { front = take place keys; back = drop (suc place) keys; is = cut; long = length-take-le place keys (omega (arith, found.0)); before = apart.0; behind = apart.1 }
 
+pub around_index : (keys : List Value) (place : ℕ) (d : Value) → IsDistinct same keys → place < length keys → Around (get_or keys place d) keys place
+around_index keys place d distinct within =
+    let k = get_or keys place d in
+    let cut : keys ≡ take place keys ++ k ∷ drop (suc place) keys = split_at keys place d within in
+    let apart = distinct_around (take place keys) k (drop (suc place) keys) (subst (IsDistinct same) cut distinct) in
+    record { front = take place keys; back = drop (suc place) keys; is = cut; long = length-take-le place keys (omega (arith, within)); before = apart.0; behind = apart.1 }
+
+pub any_around : (k : Value) (keys : List Value) (place : ℕ) → Around k keys place → list_any (same k) keys ≡ true
+any_around k keys place a =
+    ap (list_any (same k)) a.is
+    ∙ list_any-append (same k) a.front (k ∷ a.back)
+    ∙ ap (λ (b : Bool). list_any (same k) a.front || (b || list_any (same k) a.back)) (same_itself k)
+    ∙ or_true (list_any (same k) a.front)
+  where
+    or_true : (b : Bool) → (b || true) ≡ true
+    or_true true = refl
+    or_true false = refl
+
 -- the tallies of the rows with a key
 abbrev pub line : List Aggregate → ℕ → List Row → Value → List Tally
 line aggregates c rows k = tallies_of aggregates (rows_with c k rows)

@@ -125,7 +125,7 @@ impl Groups {
         let from = place * aggregates.len();
         let more = others.tallies_at(index, aggregates.len());
         join_all_at(alloc, tallies, from, from + aggregates.len(), more)?;
-        self.seen = Seen::of(&(&self.seen, others, key));
+        self.seen = Seen::of(&(&self.seen, others, index));
         Ok(())
     }
 
