@@ -3,7 +3,7 @@ use Rattle.std.proofs.Common.{◌≡◌, ℕ, suc, ◌+◌, ◌-◌, ◌*◌, �
 use Rattle.std.specs.List.{All, AllByRecursion, flat_map, list_any, position, IsDistinct}
 use Rattle.std.proofs.Math.Seq.{split_at}
 use Rattle.std.proofs.lemmas.Bool.{cases_Bool, cond-true, cond-false}
-use Rattle.std.proofs.lemmas.List.{append_assoc, append-nil, length-append, length-map, length-take-le}
+use Rattle.std.proofs.lemmas.List.{append_assoc, append-nil, length-append, length-map, length-take-le, take-append-drop}
 use Rattle.std.proofs.lemmas.List.Elements.{filter-append}
 use Rattle.std.proofs.lemmas.List.Folds.{list_any-append}
 use Rattle.std.proofs.lemmas.List.Quantifiers.{position-Some}
@@ -98,10 +98,14 @@ any_among c k x (row ∷ rows) = by_first (has_key c k row) refl (any_among c k 
         ∙ ih
         ∙ ap (λ (b : Bool). cond (same x k) (b || list_any (has_key c k) rows) false) (sym e)
 
+-- no row has two keys
+pub apart_rows : (c : ℕ) (k x : Value) (rows : List Row) → same x k ≡ false → rows_with c x (rows_with c k rows) ≡ []
+apart_rows c k x rows e = no_rows_with c x (rows_with c k rows) (any_among c k x rows ∙ ap (λ (b : Bool). cond b (list_any (has_key c k) rows) false) e)
+
 pub block_of_key : (c : ℕ) (k : Value) (rows : List Row) → list_any (has_key c k) rows ≡ true → IsBlock c k (rows_with c k rows)
 block_of_key c k rows occurs = record {
   own = filter_again (λ row. same (value_in c row) k) rows;
-  apart = λ x e. no_rows_with c x (rows_with c k rows) (any_among c k x rows ∙ ap (λ (b : Bool). cond b (list_any (has_key c k) rows) false) (same_equiv.symm x k ∙ e));
+  apart = λ x e. apart_rows c k x rows (same_equiv.symm x k ∙ e);
   some = λ x. any_among c k x rows ∙ ap (λ (b : Bool). cond (same x k) b false) occurs ∙ by_same (same x k);
 }
   where
@@ -253,3 +257,87 @@ covered_more c rows block k old keys is made covered x =
     ∙ any_keys_with k old x
     ∙ ap₂ (λ (a b : Bool). a || b) (covered x) (sym (is.some x))
     ∙ sym (list_any-append (has_key c x) rows block)
+
+-- the rows of keys, key by key
+abbrev pub key_rows : ℕ → List Row → List Value → List Row
+key_rows c rows keys = flat_map (λ k. rows_with c k rows) keys
+
+apart_from : (k : Value) (xs : List Value) → AllByRecursion (λ y. same k y ≡ false) xs → list_any (same k) xs ≡ false
+apart_from k [] a = refl
+apart_from k (x ∷ xs) a = ap₂ (λ (b d : Bool). b || d) a.0 (apart_from k xs a.1)
+
+pub key_rows-with : (c : ℕ) (rows : List Row) (keys : List Value) (k : Value) → IsDistinct same keys → rows_with c k (key_rows c rows keys) ≡ cond (list_any (same k) keys) (rows_with c k rows) []
+key_rows-with c rows [] k d = refl
+key_rows-with c rows (x ∷ keys) k d = by_first (same k x) refl (key_rows-with c rows keys k (IsDistinct-tail same x keys d))
+  where
+    by_first : (b : Bool) → same k x ≡ b → rows_with c k (key_rows c rows keys) ≡ cond (list_any (same k) keys) (rows_with c k rows) [] → rows_with c k (key_rows c rows (x ∷ keys)) ≡ cond (list_any (same k) (x ∷ keys)) (rows_with c k rows) []
+    by_first true e ih =
+        let is : k ≡ x = same_is k x e in
+        let none : list_any (same k) keys ≡ false = subst (λ (v : Value). list_any (same v) keys ≡ false) (sym is) (apart_from x keys (IsDistinct-head same x keys d)) in
+        filter-append (λ row. same (value_in c row) k) (rows_with c x rows) (key_rows c rows keys)
+        ∙ ap₂ (λ (a b : List Row). a ++ b) (ap (λ (v : Value). rows_with c k (rows_with c v rows)) (sym is) ∙ filter_again (λ row. same (value_in c row) k) rows) (ih ∙ ap (λ (b : Bool). cond b (rows_with c k rows) []) none)
+        ∙ append-nil (rows_with c k rows)
+        ∙ ap (λ (b : Bool). cond (b || list_any (same k) keys) (rows_with c k rows) []) (sym e)
+    by_first false e ih =
+        filter-append (λ row. same (value_in c row) k) (rows_with c x rows) (key_rows c rows keys)
+        ∙ ap₂ (λ (a b : List Row). a ++ b) (apart_rows c x k rows e) ih
+        ∙ ap (λ (b : Bool). cond (b || list_any (same k) keys) (rows_with c k rows) []) (sym e)
+
+front_apart : (x : Value) (xs ys : List Value) → AllByRecursion (λ y. same x y ≡ false) (xs ++ ys) → AllByRecursion (λ y. same x y ≡ false) xs
+front_apart x [] ys a = tt
+front_apart x (y ∷ xs) ys a = (a.0, front_apart x xs ys a.1)
+
+distinct_front : (xs ys : List Value) → IsDistinct same (xs ++ ys) → IsDistinct same xs
+unfolding IsDistinct
+distinct_front [] ys d = tt
+distinct_front (x ∷ xs) ys d = (front_apart x xs ys d.0, distinct_front xs ys d.1)
+
+-- the rows of the keys before one have no rows with it
+pub key_rows-before : (c : ℕ) (rows more : List Row) (keys : List Value) (place : ℕ) (d : Value) → IsDistinct same keys → place < length keys → rows_with c (get_or keys place d) (rows ++ key_rows c more (take place keys)) ≡ rows_with c (get_or keys place d) rows
+key_rows-before c rows more keys place d distinct within =
+    let k = get_or keys place d in
+    let front = distinct_front (take place keys) (drop place keys) (subst (IsDistinct same) (sym (take-append-drop place keys)) distinct) in
+    filter-append (λ row. same (value_in c row) k) rows (key_rows c more (take place keys))
+    ∙ ap (λ l. rows_with c k rows ++ l) (key_rows-with c more (take place keys) k front ∙ ap (λ (b : Bool). cond b (rows_with c k more) []) (apart_from k (take place keys) (front_of_around keys place d distinct within)))
+    ∙ append-nil (rows_with c k rows)
+  where
+    front_of_around : (keys : List Value) (place : ℕ) (d : Value) → IsDistinct same keys → place < length keys → AllByRecursion (λ x. same (get_or keys place d) x ≡ false) (take place keys)
+    front_of_around keys place d distinct within = (distinct_around (take place keys) (get_or keys place d) (drop (suc place) keys) (subst (IsDistinct same) (split_at keys place d within) distinct)).0
+
+-- whether rows have a key is told by the rows with it
+abbrev is_some_list : List Row → Bool
+is_some_list [] = false
+is_some_list (row ∷ rows) = true
+
+any_is_some : (c : ℕ) (k : Value) (rows : List Row) → list_any (has_key c k) rows ≡ is_some_list (rows_with c k rows)
+any_is_some c k [] = refl
+any_is_some c k (row ∷ rows) = by_first (has_key c k row) refl (any_is_some c k rows)
+  where
+    by_first : (b : Bool) → has_key c k row ≡ b → list_any (has_key c k) rows ≡ is_some_list (rows_with c k rows) → list_any (has_key c k) (row ∷ rows) ≡ is_some_list (rows_with c k (row ∷ rows))
+    by_first true e ih =
+        ap (λ (b : Bool). b || list_any (has_key c k) rows) e
+        ∙ sym (ap (λ (b : Bool). is_some_list (cond b (row ∷ rows_with c k rows) (rows_with c k rows))) (test_is c k row ∙ e))
+    by_first false e ih =
+        ap (λ (b : Bool). b || list_any (has_key c k) rows) e
+        ∙ ih
+        ∙ sym (ap (λ (b : Bool). is_some_list (cond b (row ∷ rows_with c k rows) (rows_with c k rows))) (test_is c k row ∙ e))
+
+-- Rows that have the same rows with each key have the same groups.
+pub same_any : (c : ℕ) (rows others : List Row) → ((k : Value) → rows_with c k rows ≡ rows_with c k others) → (k : Value) → list_any (has_key c k) rows ≡ list_any (has_key c k) others
+same_any c rows others same_rows k = any_is_some c k rows ∙ ap is_some_list (same_rows k) ∙ sym (any_is_some c k others)
+
+pub same_lines : (aggregates : List Aggregate) (c : ℕ) (rows others : List Row) → ((k : Value) → rows_with c k rows ≡ rows_with c k others) → (keys : List Value) → flat_map (line aggregates c rows) keys ≡ flat_map (line aggregates c others) keys
+same_lines aggregates c rows others same_rows [] = refl
+same_lines aggregates c rows others same_rows (k ∷ keys) =
+    ap₂ (λ (a b : List Tally). a ++ b) (ap (tallies_of aggregates) (same_rows k)) (same_lines aggregates c rows others same_rows keys)
+
+-- so it is where rows come key by key, and all keys are there
+pub key_by_key : (c : ℕ) (rows more : List Row) (keys : List Value) → IsDistinct same keys → ((k : Value) → list_any (same k) keys ≡ list_any (has_key c k) more) → (k : Value) → rows_with c k (rows ++ key_rows c more keys) ≡ rows_with c k (rows ++ more)
+key_by_key c rows more keys d covered k =
+    filter-append (λ row. same (value_in c row) k) rows (key_rows c more keys)
+    ∙ ap (λ l. rows_with c k rows ++ l) (key_rows-with c more keys k d ∙ by_any (list_any (same k) keys) refl)
+    ∙ sym (filter-append (λ row. same (value_in c row) k) rows more)
+  where
+    by_any : (b : Bool) → list_any (same k) keys ≡ b → cond (list_any (same k) keys) (rows_with c k more) [] ≡ rows_with c k more
+    by_any true e = ap (λ (b : Bool). cond b (rows_with c k more) []) e
+    by_any false e = ap (λ (b : Bool). cond b (rows_with c k more) []) e ∙ sym (no_rows_with c k more (sym (covered k) ∙ e))
