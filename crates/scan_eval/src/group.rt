@@ -203,7 +203,8 @@ fn in_order(alloc: Global, keys: Vec<Value>) -> Result<Vec<KeyPlace>, Memory>
     ensures { IfOk result (λ places. AreInOrder keys.items places.items) }
 {
     let mut places = Vec::with_capacity(alloc, keys.len())?;
-    for (place, key) in keys.into_iter().enumerate() {
+    for key in keys {
+        let place = places.len();
         places.push(KeyPlace { key, place })?;
     }
     places.sort_unstable_by(|a, b| by_key(a, b));
