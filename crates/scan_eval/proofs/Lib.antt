@@ -1,6 +1,7 @@
 pub mod Writes
 pub mod Best
 pub mod GroupLaws
+pub mod GroupOrder
 pub mod Places
 pub mod TallyLaws
 pub mod TextKeys

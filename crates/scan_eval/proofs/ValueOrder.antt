@@ -78,7 +78,7 @@ none_above k [] a = refl
 none_above k (x ∷ xs) a = ap₂ (λ (b c : Bool). b || c) (ap is_eq a.0) (none_above k xs a.1)
 
 -- nor is a key below such a key
-below_all : (k x : Value) (xs : List Value) → value_cmp k x ≡ Less → AllByRecursion (λ y. value_cmp x y ≡ Less) xs → AllByRecursion (λ y. value_cmp k y ≡ Less) xs
+pub below_all : (k x : Value) (xs : List Value) → value_cmp k x ≡ Less → AllByRecursion (λ y. value_cmp x y ≡ Less) xs → AllByRecursion (λ y. value_cmp k y ≡ Less) xs
 below_all k x [] e a = tt
 below_all k x (y ∷ ys) e a = (chains k x y e a.0, below_all k x ys e a.1)
 

@@ -4,7 +4,7 @@ use Rattle.std.proofs.lemmas.List.Edits.{map_over_more}
 use Rattle.scan_eval.specs.declared.tally.Tally.{Tally}
 use Rattle.scan_eval.specs.Tally.{with_row, size_of}
 use Rattle.scan_eval.proofs.Writes.{after_front, front_more, zip_front}
-use Rattle.scan_eval.proofs.GroupLaws.{grown}
+use Rattle.scan_eval.proofs.GroupOrder.{lines_in_order}
 use Rattle.scan_eval.proofs.tally.add_row.Goals as goal
 
 pub add-requires : goal.add-requires
