@@ -91,7 +91,7 @@ keys_of_places : (n : ℕ) (keys : List Value) → map (λ p. p.key) (places_fro
 keys_of_places n [] = refl
 keys_of_places n (k ∷ keys) = ap (λ l. k ∷ l) (keys_of_places (n + 1) keys)
 
-length_places : (n : ℕ) (keys : List Value) → length (places_from n keys) ≡ length keys
+pub length_places : (n : ℕ) (keys : List Value) → length (places_from n keys) ≡ length keys
 length_places n [] = refl
 length_places n (k ∷ keys) = let rest = length_places (n + 1) keys in omega (arith, rest)
 

@@ -1,6 +1,9 @@
--- Loops that write the elements of a list in their order.
+-- Loops that write the elements of a list in their order, or take them out.
 use Rattle.std.proofs.Common.{◌≡◌, ℕ, ◌+◌, ◌-◌, ◌*◌, ◌<◌, ◌≤◌, List, [], ◌∷◌, ◌++◌, length, map, take, drop, get_or, set, refl, sym, ap, ap₂, ◌∙◌, arith}
-use Rattle.std.specs.List.{zip}
+use Rattle.std.specs.Iterator.{Yields}
+use Rattle.std.specs.List.{AllByRecursion, zip}
+use Rattle.std.specs.Vec.Iter.{into_iter_items, into_iter_steps}
+use Rattle.std.specs.declared.vec.IntoIter.{IntoIter}
 use Rattle.std.proofs.lemmas.List.{get_or-append_right, get_or-drop, set-append_right, length-map, length-take-le, take_more, drop_more, append_assoc}
 
 -- what comes behind a front that is written
@@ -42,3 +45,13 @@ length_zip_front f xs zs i w v =
     let left = length-take-le i xs w in
     let right = length-take-le i zs v in
     length_zip f (take i xs) (take i zs) (left ∙ sym right) ∙ left
+
+-- what the iterator of a vector has given is a front of its items
+pub taken_front : {X A : Type 0} (s : IntoIter X A) (xs : List X) (t : IntoIter X A) → Yields into_iter_steps s xs t → into_iter_items s ≡ xs ++ into_iter_items t
+taken_front s [] t y = ap into_iter_items y
+taken_front s (x ∷ xs) t y = y.1.0 ∙ ap (λ ys. x ∷ ys) (taken_front y.0 xs t y.2)
+
+-- what holds of all elements holds of the one behind some
+pub of_middle : {X : Type 0} (P : X → Type 0) (xs : List X) (x : X) (zs : List X) → AllByRecursion P (xs ++ x ∷ zs) → P x
+of_middle P [] x zs a = a.0
+of_middle P (y ∷ xs) x zs a = of_middle P xs x zs a.1

@@ -1,33 +1,24 @@
 use Rattle.std.proofs.Common.{◌≡◌, ℕ, ◌+◌, List, [], ◌∷◌, ◌++◌, length, refl, sym, ap, ap₂, ◌∙◌, subst, arith, zero-add, rules}
 use Rattle.std.specs.Fn.{ComparesAs}
-use Rattle.std.specs.Iterator.{Yields}
 use Rattle.std.specs.List.Sorted.{IsPermutation}
 use Rattle.std.specs.Ordering.{is_lt}
-use Rattle.std.specs.Vec.Iter.{into_iter_items, into_iter_steps}
-use Rattle.std.specs.declared.vec.IntoIter.{IntoIter}
+use Rattle.std.specs.Vec.Iter.{into_iter_items}
 use Rattle.std.proofs.lemmas.List.{append-nil, nil_from_length}
 use Rattle.std.proofs.lemmas.List.Sorted.{ranks_by, answers_always}
 use Rattle.adg_base.specs.declared.value.Value.{Value}
 use Rattle.adg_model.specs.Query.{value_cmp}
 use Rattle.scan_eval.specs.declared.group.KeyPlace.{KeyPlace}
 use Rattle.scan_eval.specs.Groups.{places_from}
+use Rattle.scan_eval.proofs.GroupOrder.{length_places}
+use Rattle.scan_eval.proofs.Writes.{taken_front}
 use Rattle.scan_eval.proofs.ValueOrder.{value_cmp_total}
 use Rattle.scan_eval.proofs.group.in_order.Goals as goal
-
-length_places : (n : ℕ) (keys : List Value) → length (places_from n keys) ≡ length keys
-length_places n [] = refl
-length_places n (k ∷ keys) = let rest = length_places (n + 1) keys in omega (arith, rest)
 
 places_push : (n : ℕ) (keys : List Value) (k : Value) → places_from n (keys ++ k ∷ []) ≡ places_from n keys ++ record { key = k; place = n + length keys } ∷ []
 places_push n [] k = ap (λ (m : ℕ). let p : KeyPlace = record { key = k; place = m } in p ∷ []) (omega arith)
 places_push n (x ∷ keys) k =
     ap (λ (l : List KeyPlace). let p : KeyPlace = record { key = x; place = n } in p ∷ l)
     (places_push (n + 1) keys k ∙ ap (λ (m : ℕ). let p : KeyPlace = record { key = k; place = m } in places_from (n + 1) keys ++ p ∷ []) (omega arith))
-
--- what the iterator of a vector has given is a front of its items
-taken_front : {X A : Type 0} (s : IntoIter X A) (xs : List X) (t : IntoIter X A) → Yields into_iter_steps s xs t → into_iter_items s ≡ xs ++ into_iter_items t
-taken_front s [] t y = ap into_iter_items y
-taken_front s (x ∷ xs) t y = y.1.0 ∙ ap (λ ys. x ∷ ys) (taken_front y.0 xs t y.2)
 
 pub loop-key-preserved : goal.loop-key-preserved
 loop-key-preserved c =
