@@ -18,6 +18,7 @@ use Rattle.scan_eval.specs.Shown.{same}
 use Rattle.scan_eval.specs.Tally.{tally_of, tallies_of}
 use Rattle.scan_eval.specs.Groups.{keys_with}
 use Rattle.scan_eval.proofs.ValueOrder.{same_equiv, same_itself, same_is}
+use Rattle.scan_eval.proofs.Writes.{filter_fewer}
 use Rattle.scan_eval.proofs.Places.{front_of, middle_of, back_of, length_pieces, three_parts}
 
 abbrev pub Row : Type 0
@@ -197,12 +198,7 @@ has_part aggregates c rows k keys place tallies a tallied =
 
 -- rows with a key are no more than all
 pub fewer_with : (c : ℕ) (k : Value) (rows : List Row) → length (rows_with c k rows) ≤ length rows
-fewer_with c k [] = omega arith
-fewer_with c k (row ∷ rows) = by_first (same (value_in c row) k) (fewer_with c k rows)
-  where
-    by_first : (b : Bool) → length (rows_with c k rows) ≤ length rows → length (cond b (row ∷ rows_with c k rows) (rows_with c k rows)) ≤ length (row ∷ rows)
-    by_first true few = omega (arith, few)
-    by_first false few = omega (arith, few)
+fewer_with c k rows = filter_fewer (λ row. same (value_in c row) k) rows
 
 -- The part is written anew, and the tallies are those of the rows with the block.
 pub grown : (aggregates : List Aggregate) (c : ℕ) (rows block : List Row) (k : Value) (keys : List Value) (place : ℕ) (tallies ts : List Tally) → IsBlock c k block → Around k keys place → tallies ≡ flat_map (line aggregates c rows) keys → ts ≡ tallies_of aggregates (rows_with c k rows ++ block) →

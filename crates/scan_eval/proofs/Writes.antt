@@ -1,5 +1,5 @@
 -- Loops that write the elements of a list in their order, or take them out.
-use Rattle.std.proofs.Common.{◌≡◌, ℕ, ◌+◌, ◌-◌, ◌*◌, ◌<◌, ◌≤◌, List, [], ◌∷◌, ◌++◌, length, map, take, drop, get_or, set, refl, sym, ap, ap₂, ◌∙◌, arith}
+use Rattle.std.proofs.Common.{◌≡◌, ℕ, Bool, true, false, cond, filter, ◌+◌, ◌-◌, ◌*◌, ◌<◌, ◌≤◌, List, [], ◌∷◌, ◌++◌, length, map, take, drop, get_or, set, refl, sym, ap, ap₂, ◌∙◌, arith}
 use Rattle.std.specs.Iterator.{Yields}
 use Rattle.std.specs.List.{AllByRecursion, zip}
 use Rattle.std.specs.Vec.Iter.{into_iter_items, into_iter_steps}
@@ -55,3 +55,12 @@ taken_front s (x ∷ xs) t y = y.1.0 ∙ ap (λ ys. x ∷ ys) (taken_front y.0 x
 pub of_middle : {X : Type 0} (P : X → Type 0) (xs : List X) (x : X) (zs : List X) → AllByRecursion P (xs ++ x ∷ zs) → P x
 of_middle P [] x zs a = a.0
 of_middle P (y ∷ xs) x zs a = of_middle P xs x zs a.1
+
+-- what passes a test is no more than all
+pub filter_fewer : {X : Type 0} (p : X → Bool) (xs : List X) → length (filter p xs) ≤ length xs
+filter_fewer p [] = omega arith
+filter_fewer {X} p (x ∷ xs) = by_first (p x) (filter_fewer p xs)
+  where
+    by_first : (b : Bool) → length (filter p xs) ≤ length xs → length (cond b (x ∷ filter p xs) (filter p xs)) ≤ length (x ∷ xs)
+    by_first true few = omega (arith, few)
+    by_first false few = omega (arith, few)
