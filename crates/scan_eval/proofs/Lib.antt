@@ -1,0 +1,8 @@
+pub mod Writes
+pub mod Best
+pub mod GroupLaws
+pub mod GroupOrder
+pub mod Places
+pub mod TallyLaws
+pub mod TextKeys
+pub mod ValueOrder

@@ -1,0 +1,8 @@
+pub mod Added
+pub mod Admission
+pub mod Gathered
+pub mod Groups
+pub mod KeyIndex
+pub mod Shown
+pub mod Summed
+pub mod Tally

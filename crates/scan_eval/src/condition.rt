@@ -1,0 +1,57 @@
+//! Whether a row meets conditions, tried on its values where they lie.
+
+ghost use Rattle.std.specs.Prelude.{◌≡◌, ◌&&◌, not, ◌-◌};
+ghost use Rattle.std.specs.List.{list_all};
+ghost use Rattle.adg_model.specs.Query as query;
+ghost use Rattle.adg_model.specs.Query.{allows, is_null, value_cmp, value_in};
+ghost use Rattle.scan_eval.specs.Shown.{shown};
+
+use crate::value_ref::{RowView, ValueRef};
+use adg_base::command::{Condition, Op};
+use std::cmp::Ordering;
+
+/// Whether a row meets all conditions.
+pub fn meets_all<R: RowView>(row: &R, conditions: &[Condition]) -> bool
+    ensures { result ≡ list_all (query.meets (R.values row.now)) conditions.now }
+{
+    conditions.iter().all(|condition| meets(row, condition))
+}
+
+fn meets<R: RowView>(row: &R, condition: &Condition) -> bool
+    ensures { result ≡ query.meets (R.values row.now) condition.now }
+{
+    let value = value_in(row, condition.column);
+    passes(value, condition.op, ValueRef::of(&condition.literal))
+}
+
+/// The value in a column, which counts from 1.
+pub fn value_in<R: RowView>(row: &R, column: u8) -> ValueRef<'_>
+    ensures { shown result ≡ query.value_in column (R.values row.now) }
+{
+    row.value(usize::from(column).saturating_sub(1))
+}
+
+/// Whether a comparison holds; with no value on either side none does.
+fn passes(value: ValueRef<'_>, op: Op, literal: ValueRef<'_>) -> bool
+    ensures { result ≡ (not (is_null (shown value.entry)) && not (is_null (shown literal.entry)) && allows op (value_cmp (shown value.entry) (shown literal.entry))) }
+{
+    match (value, literal) {
+        (ValueRef::Null, _) | (_, ValueRef::Null) => false,
+        (ValueRef::Int(_) | ValueRef::Text(_), ValueRef::Int(_) | ValueRef::Text(_)) => {
+            is_allowed(op, value.compare(literal))
+        }
+    }
+}
+
+fn is_allowed(op: Op, order: Ordering) -> bool
+    ensures { result ≡ allows op order }
+{
+    match op {
+        Op::Eq => order.is_eq(),
+        Op::Ne => !order.is_eq(),
+        Op::Lt => order.is_lt(),
+        Op::Le => !order.is_gt(),
+        Op::Gt => order.is_gt(),
+        Op::Ge => !order.is_lt(),
+    }
+}

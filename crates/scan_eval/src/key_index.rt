@@ -1,0 +1,60 @@
+//! Where the group of each key stands.
+
+ghost use Rattle.std.specs.Prelude.{◌≡◌, if◌then◌else◌, None, Some, OnOk};
+ghost use Rattle.adg_base.specs.declared.value.Value.{Value as Datum};
+ghost use Rattle.scan_eval.specs.Shown.{shown, same};
+ghost use Rattle.scan_eval.specs.KeyIndex.{place_at};
+
+use crate::value_ref::ValueRef;
+use adg_base::memory::Memory;
+use std::alloc::Global;
+use std::collections::HashMap;
+
+/// The places of keys in a list. A key is looked up where it lies, and kept once where it is new.
+#[derive(Drop)]
+pub struct KeyIndex {
+    null: Option<usize>,
+    numbers: HashMap<i64, usize>,
+    texts: HashMap<Vec<u8>, usize>,
+}
+
+impl KeyIndex {
+    /// No key has a place.
+    pub fn new(alloc: Global) -> KeyIndex
+        ensures { (key : Datum) → place_at result key ≡ None }
+    {
+        KeyIndex {
+            null: None,
+            numbers: HashMap::new(alloc),
+            texts: HashMap::new(alloc),
+        }
+    }
+
+    /// The place of a key.
+    pub fn find(&self, key: ValueRef<'_>) -> Option<usize>
+        ensures { result ≡ place_at self.now (shown key.entry) }
+    {
+        match key {
+            ValueRef::Null => self.null,
+            ValueRef::Int(number) => self.numbers.get(&number).copied(),
+            ValueRef::Text(text) => self.texts.get(text.as_bytes()).copied(),
+        }
+    }
+
+    /// Gives a key a place.
+    pub fn insert(&mut self, alloc: Global, key: ValueRef<'_>, place: usize) -> Result<(), Memory>
+        ensures { OnOk result ((k : Datum) → place_at self.new k ≡ (if same k (shown key.entry) then Some place else place_at self.old k)) }
+    {
+        match key {
+            ValueRef::Null => self.null = Some(place),
+            ValueRef::Int(number) => {
+                self.numbers.insert(number, place)?;
+            }
+            ValueRef::Text(text) => {
+                let bytes = Vec::from_slice(alloc, text.as_bytes())?;
+                self.texts.insert(bytes, place)?;
+            }
+        }
+        Ok(())
+    }
+}
