@@ -26,7 +26,7 @@ use Rattle.adg_model.specs.Laws.{OneCommand}
 use Rattle.adg_model.proofs.VectorsSpelled.{heads}
 
 -- a text does not begin with a byte of a sort
-abbrev BeginsElse : (ℕ → Type 0) → List ℕ → Type 0
+abbrev pub BeginsElse : (ℕ → Type 0) → List ℕ → Type 0
 BeginsElse Is [] = Unit {0}
 BeginsElse Is (c ∷ cs) = Is c → ⊥
 
@@ -41,21 +41,21 @@ fronts_of Is (c ∷ cs) (d ∷ ds) x y h k ex ey e =
     let later = fronts_of Is cs ds x y h.1 k.1 ex ey (ap (drop 1) e) in
     (ap₂ (λ f fs. f ∷ fs) (heads c d (cs ++ x) (ds ++ y) e) later.0, later.1)
 
-abbrev IsDigit : ℕ → Type 0
+abbrev pub IsDigit : ℕ → Type 0
 IsDigit c = (48 ≤ c) × (c ≤ 57)
 
 -- no digit goes on here
-abbrev EndsNumber : List ℕ → Type 0
+abbrev pub EndsNumber : List ℕ → Type 0
 EndsNumber rest = BeginsElse IsDigit rest
 
 each_digit : (ds : List ℕ) → AllDigits 10 ds → AllByRecursion IsDigit ds
 each_digit [] h = tt
 each_digit (c ∷ cs) h = let here = digit_from_value c h.0 in (here, each_digit cs h.1)
 
-decimal_digits : (n : ℕ) → n < 2 ^ 64 → AllByRecursion IsDigit (decimal n)
+pub decimal_digits : (n : ℕ) → n < 2 ^ 64 → AllByRecursion IsDigit (decimal n)
 decimal_digits n l = each_digit (decimal n) (decimal_is_IsNumeral n l).0.1
 
-decimal_apart : (m n : ℕ) (x y : List ℕ) → m < 2 ^ 64 → n < 2 ^ 64 → EndsNumber x → EndsNumber y → decimal m ++ x ≡ decimal n ++ y → (m ≡ n) × (x ≡ y)
+pub decimal_apart : (m n : ℕ) (x y : List ℕ) → m < 2 ^ 64 → n < 2 ^ 64 → EndsNumber x → EndsNumber y → decimal m ++ x ≡ decimal n ++ y → (m ≡ n) × (x ≡ y)
 decimal_apart m n x y l k ex ey e =
     let p = fronts_of IsDigit (decimal m) (decimal n) x y (decimal_digits m l) (decimal_digits n k) ex ey e in
     (decimal_injective m n l k p.0, p.1)
@@ -65,10 +65,10 @@ first_digit [] x n h = absurd (omega arith)
 first_digit (c ∷ cs) x n h = h.0
 
 -- a number begins with a digit
-decimal_first : (n : ℕ) (x : List ℕ) → n < 2 ^ 64 → IsDigit (get_or (decimal n ++ x) 0 0)
+pub decimal_first : (n : ℕ) (x : List ℕ) → n < 2 ^ 64 → IsDigit (get_or (decimal n ++ x) 0 0)
 decimal_first n x l = first_digit (decimal n) x (decimal_is_IsNumeral n l).0.0 (decimal_digits n l)
 
-signed_apart : (a b : ℤ) (x y : List ℕ) → FitsSigned w64 a → FitsSigned w64 b → EndsNumber x → EndsNumber y → signed_decimal a ++ x ≡ signed_decimal b ++ y → (a ≡ b) × (x ≡ y)
+pub signed_apart : (a b : ℤ) (x y : List ℕ) → FitsSigned w64 a → FitsSigned w64 b → EndsNumber x → EndsNumber y → signed_decimal a ++ x ≡ signed_decimal b ++ y → (a ≡ b) × (x ≡ y)
 signed_apart (pos m) (pos n) x y h k ex ey e =
     let p = decimal_apart m n x y (omega (arith, h)) (omega (arith, k)) ex ey e in
     (ap pos p.0, p.1)
@@ -84,15 +84,15 @@ signed_apart (negsuc m) (negsuc n) x y h k ex ey e =
     (ap negsuc same, p.1)
 
 -- a signed number begins with a digit or a minus
-signed_no_quote : (a : ℤ) (x : List ℕ) → FitsSigned w64 a → get_or (signed_decimal a ++ x) 0 0 ≡ 39 → ⊥
+pub signed_no_quote : (a : ℤ) (x : List ℕ) → FitsSigned w64 a → get_or (signed_decimal a ++ x) 0 0 ≡ 39 → ⊥
 signed_no_quote (pos n) x h e = let d = decimal_first n x (omega (arith, h)) in omega (arith, d, e)
 signed_no_quote (negsuc n) x h e = omega (arith, e)
 
 -- a text has no quotation mark
-abbrev IsNoQuote : ℕ → Type 0
+abbrev pub IsNoQuote : ℕ → Type 0
 IsNoQuote c = c ≡ 39 → ⊥
 
-no_quotes : (t : List ℕ) → list_all is_text_byte t ≡ true → AllByRecursion IsNoQuote t
+pub no_quotes : (t : List ℕ) → list_all is_text_byte t ≡ true → AllByRecursion IsNoQuote t
 no_quotes [] h = tt
 no_quotes (c ∷ cs) h =
     let p = and_parts (is_text_byte c) (list_all is_text_byte cs) h in
@@ -101,14 +101,14 @@ no_quotes (c ∷ cs) h =
     quote_is_none : (c : ℕ) → c ≡ 39 → is_text_byte c ≡ true → ⊥
     quote_is_none c e h = let f = subst (λ b. is_text_byte b ≡ true) e h in cc
 
-quoted_apart : (s t x y : List ℕ) → IsText s → IsText t → s ++ 39 ∷ x ≡ t ++ 39 ∷ y → (s ≡ t) × (x ≡ y)
+pub quoted_apart : (s t x y : List ℕ) → IsText s → IsText t → s ++ 39 ∷ x ≡ t ++ 39 ∷ y → (s ≡ t) × (x ≡ y)
 quoted_apart s t x y h k e =
     let hs = and_parts (nat_le (length s) 64) (list_all is_text_byte s) h in
     let ks = and_parts (nat_le (length t) 64) (list_all is_text_byte t) k in
     let p = fronts_of IsNoQuote s t (39 ∷ x) (39 ∷ y) (no_quotes s hs.1) (no_quotes t ks.1) (λ f. f refl) (λ f. f refl) e in
     (p.0, ap (drop 1) p.1)
 
-quoted_laid : (s x : List ℕ) → literal_bytes (Text s) ++ x ≡ 39 ∷ (s ++ 39 ∷ x)
+pub quoted_laid : (s x : List ℕ) → literal_bytes (Text s) ++ x ≡ 39 ∷ (s ++ 39 ∷ x)
 quoted_laid s x = ap (λ l. 39 ∷ l) (append_assoc s (39 ∷ []) x)
 
 literal_apart : (a b : Value) (x y : List ℕ) → IsValue a → IsValue b → a ≢ Null → b ≢ Null → EndsNumber x → EndsNumber y → literal_bytes a ++ x ≡ literal_bytes b ++ y → (a ≡ b) × (x ≡ y)
@@ -121,7 +121,7 @@ literal_apart (Text s) (Text t) x y h k na nb ex ey e =
     let p = quoted_apart s t x y h k (ap (drop 1) (sym (quoted_laid s x) ∙ e ∙ quoted_laid t y)) in
     (ap Text p.0, p.1)
 
-op_apart : (a b : Op) (x y : List ℕ) → op_bytes a ++ 32 ∷ x ≡ op_bytes b ++ 32 ∷ y → (a ≡ b) × (x ≡ y)
+pub op_apart : (a b : Op) (x y : List ℕ) → op_bytes a ++ 32 ∷ x ≡ op_bytes b ++ 32 ∷ y → (a ≡ b) × (x ≡ y)
 op_apart op.Eq op.Eq x y e = (refl, ap (drop 2) e)
 op_apart op.Ne op.Ne x y e = (refl, ap (drop 3) e)
 op_apart op.Lt op.Lt x y e = (refl, ap (drop 2) e)
@@ -131,7 +131,7 @@ op_apart op.Ge op.Ge x y e = (refl, ap (drop 3) e)
 op_apart a b x y e = absurd (omega (arith, ap (λ l. get_or l 0 0) e, ap (λ l. get_or l 1 0) e))
 
 -- a column, and something behind it that is no digit
-column_apart : (c d : ℕ) (x y : List ℕ) → IsColumn c → IsColumn d → EndsNumber x → EndsNumber y → decimal c ++ x ≡ decimal d ++ y → (c ≡ d) × (x ≡ y)
+pub column_apart : (c d : ℕ) (x y : List ℕ) → IsColumn c → IsColumn d → EndsNumber x → EndsNumber y → decimal c ++ x ≡ decimal d ++ y → (c ≡ d) × (x ≡ y)
 column_apart c d x y h k ex ey e = decimal_apart c d x y (omega (arith, h.1)) (omega (arith, k.1)) ex ey e
 
 -- a column in brackets
@@ -141,7 +141,7 @@ bracketed_apart c d x y h k e =
     let p = column_apart c d (41 ∷ x) (41 ∷ y) h k (λ i. omega (arith, i)) (λ i. omega (arith, i)) f in
     (p.0, ap (drop 1) p.1)
 
-aggregate_apart : (a b : Aggregate) (x y : List ℕ) → IsAggregate a → IsAggregate b → aggregate_bytes a ++ x ≡ aggregate_bytes b ++ y → (a ≡ b) × (x ≡ y)
+pub aggregate_apart : (a b : Aggregate) (x y : List ℕ) → IsAggregate a → IsAggregate b → aggregate_bytes a ++ x ≡ aggregate_bytes b ++ y → (a ≡ b) × (x ≡ y)
 aggregate_apart Count Count x y h k e = (refl, ap (drop 5) e)
 aggregate_apart (Sum c) (Sum d) x y h k e = let p = bracketed_apart c d x y h k (ap (drop 5) e) in (ap Sum p.0, p.1)
 aggregate_apart (Min c) (Min d) x y h k e = let p = bracketed_apart c d x y h k (ap (drop 5) e) in (ap Min p.0, p.1)
@@ -162,7 +162,7 @@ regroup_5 a b c d e x = simp append_assoc
 aggregates_laid : (a b : Aggregate) (more : List Aggregate) (x : List ℕ) → aggregates_bytes (a ∷ b ∷ more) ++ x ≡ aggregate_bytes a ++ (codes ", " ++ (aggregates_bytes (b ∷ more) ++ x))
 aggregates_laid a b more x = regroup_3 (aggregate_bytes a) (codes ", ") (aggregates_bytes (b ∷ more)) x
 
-aggregates_apart : (cs ds : List Aggregate) (x y : List ℕ) → 1 ≤ length cs → 1 ≤ length ds → AllByRecursion IsAggregate cs → AllByRecursion IsAggregate ds → aggregates_bytes cs ++ 32 ∷ x ≡ aggregates_bytes ds ++ 32 ∷ y → (cs ≡ ds) × (x ≡ y)
+pub aggregates_apart : (cs ds : List Aggregate) (x y : List ℕ) → 1 ≤ length cs → 1 ≤ length ds → AllByRecursion IsAggregate cs → AllByRecursion IsAggregate ds → aggregates_bytes cs ++ 32 ∷ x ≡ aggregates_bytes ds ++ 32 ∷ y → (cs ≡ ds) × (x ≡ y)
 aggregates_apart [] ds x y m n h k e = absurd (omega (arith, m))
 aggregates_apart cs [] x y m n h k e = absurd (omega (arith, n))
 aggregates_apart (c ∷ []) (d ∷ []) x y m n h k e =
@@ -256,7 +256,7 @@ aggregate_first (Sum c) x e = omega (arith, e)
 aggregate_first (Min c) x e = omega (arith, e)
 aggregate_first (Max c) x e = omega (arith, e)
 
-aggregates_no_star : (ks : List Aggregate) (x y : List ℕ) → 1 ≤ length ks → aggregates_bytes ks ++ x ≡ 42 ∷ y → ⊥
+pub aggregates_no_star : (ks : List Aggregate) (x y : List ℕ) → 1 ≤ length ks → aggregates_bytes ks ++ x ≡ 42 ∷ y → ⊥
 aggregates_no_star [] x y n e = omega (arith, n)
 aggregates_no_star (a ∷ []) x y n e = aggregate_first a x (ap (λ l. get_or l 0 0) e)
 aggregates_no_star (a ∷ b ∷ bs) x y n e =

@@ -16,7 +16,7 @@ use Rattle.query_text.specs.Parts.{EndsNumber, Ended, IsFunction, function_bytes
 use Rattle.query_text.proofs.Stopping.{stops_in, stops_as, refuses}
 use Rattle.query_text.proofs.Tables.{table_reads}
 use Rattle.query_text.proofs.Conditions.{ends_same}
-use Rattle.query_text.proofs.Apart.{column_apart, aggregate_apart}
+use Rattle.adg_model.proofs.CommandLaws.{column_apart, aggregate_apart}
 
 -- ---- words
 

@@ -14,7 +14,7 @@ use Rattle.query_text.specs.Parts.{EndsNumber, Ended, IsLiteral, EndsLiteral, En
 use Rattle.query_text.proofs.Stopping.{stops_in, stops_as, refuses}
 use Rattle.query_text.proofs.Tables.{table_reads}
 use Rattle.query_text.proofs.Literals.{no_null_int}
-use Rattle.query_text.proofs.Apart.{column_apart, op_apart}
+use Rattle.adg_model.proofs.CommandLaws.{column_apart, op_apart}
 
 op_meant : {W : Type 0} (a b c d e f : W) (t : Op) → IsMeant ((a, op.Eq) ∷ (b, op.Ne) ∷ (c, op.Lt) ∷ (d, op.Le) ∷ (e, op.Gt) ∷ (f, op.Ge) ∷ []) t
 op_meant a b c d e f op.Eq = inl refl

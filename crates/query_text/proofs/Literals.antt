@@ -15,7 +15,7 @@ use Rattle.query_text.specs.declared.fault.Fault.{Fault}
 use Rattle.query_text.specs.Parts.{Ended, IsLiteral, EndsLiteral, closed}
 use Rattle.query_text.specs.Literals.{IsTextLen}
 use Rattle.query_text.proofs.Stopping.{heads, stops_in, stops_as, refuses}
-use Rattle.query_text.proofs.Apart.{IsNoQuote, no_quotes, signed_no_quote}
+use Rattle.adg_model.proofs.CommandLaws.{IsNoQuote, no_quotes, signed_no_quote}
 
 -- ---- texts
 

@@ -15,7 +15,7 @@ use Rattle.adg_model.specs.Spelling.{IsObj}
 use Rattle.adg_model.specs.Command.{IsColumn}
 use Rattle.query_text.specs.Parts.{IsDigit, EndsNumber, Ended, IsNumber, IsZero}
 use Rattle.query_text.proofs.Stopping.{heads, stops_in, stops_as, refuses}
-use Rattle.query_text.proofs.Apart.{decimal_digits, decimal_first, decimal_apart}
+use Rattle.adg_model.proofs.CommandLaws.{decimal_digits, decimal_first, decimal_apart}
 
 -- ---- the number of digits
 

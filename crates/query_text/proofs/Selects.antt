@@ -16,7 +16,7 @@ use Rattle.query_text.proofs.Stopping.{stops_in, stops_as, refuses}
 use Rattle.query_text.proofs.Numbers.{obj_small}
 use Rattle.query_text.proofs.Conditions.{ends_same}
 use Rattle.query_text.proofs.Tails.{none_in, tail_ends}
-use Rattle.query_text.proofs.Apart.{decimal_apart, aggregates_apart, aggregates_no_star}
+use Rattle.adg_model.proofs.CommandLaws.{decimal_apart, aggregates_apart, aggregates_no_star}
 
 abbrev where_word : List ℕ
 where_word = codes " WHERE c"

@@ -17,7 +17,8 @@ use Rattle.query_text.proofs.Stopping.{stops_in, stops_as, refuses}
 use Rattle.query_text.proofs.Tables.{table_reads}
 use Rattle.query_text.proofs.Literals.{no_null_int}
 use Rattle.query_text.proofs.Conditions.{test_laid, ends_same}
-use Rattle.query_text.proofs.Apart.{column_apart, op_apart, literal_apart}
+use Rattle.adg_model.proofs.CommandLaws.{column_apart, op_apart}
+use Rattle.query_text.proofs.Apart.{literal_apart}
 
 -- ---- what comes next
 
