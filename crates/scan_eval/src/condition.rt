@@ -3,10 +3,10 @@
 ghost use Rattle.std.specs.Prelude.{◌≡◌, ◌&&◌, not, ◌-◌};
 ghost use Rattle.std.specs.List.{list_all};
 ghost use Rattle.adg_model.specs.Query as query;
-ghost use Rattle.adg_model.specs.Query.{allows, is_null, value_cmp, value_in};
-ghost use Rattle.scan_eval.specs.Shown.{shown};
+ghost use Rattle.adg_model.specs.Query.{allows, value_in};
+ghost use Rattle.adg_base.specs.Values.{is_null, value_cmp, shown};
 
-use crate::value_ref::{RowView, ValueRef};
+use adg_base::value_ref::{RowView, ValueRef};
 use adg_base::command::{Condition, Op};
 use adg_model::comparison::is_allowed;
 

@@ -2,9 +2,12 @@
 
 ghost use Rattle.std.specs.Prelude.{◌≡◌, ◌++◌, ◌&&◌, [], ◌∷◌, map, not, IfOk, OnOk};
 ghost use Rattle.std.specs.List.{filter_map, list_all};
-ghost use Rattle.adg_model.specs.Database.{place, played};
+ghost use Rattle.adg_model.specs.Database.{played};
+ghost use Rattle.adg_base.specs.Address.{place, block_places};
 ghost use Rattle.adg_model.specs.Query as query;
-ghost use Rattle.adg_model.specs.Query.{allows, block_places, padded, table_rows, value_cmp};
+ghost use Rattle.adg_base.specs.Values as order;
+ghost use Rattle.adg_base.specs.Values.{value_cmp};
+ghost use Rattle.adg_model.specs.Query.{allows, padded, table_rows};
 ghost use Rattle.adg_model.specs.Plain.{no_rows};
 
 use super::walk::{PlainChange, PlainTable, row_at};
@@ -112,14 +115,14 @@ fn meets(row: &[Value], condition: &Condition) -> bool
 }
 
 fn compares(value: &Value, op: Op, literal: &Value) -> bool
-    ensures { result ≡ (not (query.is_null value.now) && not (query.is_null literal.now) && allows op (value_cmp value.now literal.now)) }
+    ensures { result ≡ (not (order.is_null value.now) && not (order.is_null literal.now) && allows op (value_cmp value.now literal.now)) }
 {
     !is_null(value) && !is_null(literal) && is_allowed(op, compare(value, literal))
 }
 
 /// Whether there is no value.
 pub fn is_null(value: &Value) -> bool
-    ensures { result ≡ query.is_null value.now }
+    ensures { result ≡ order.is_null value.now }
 {
     match value {
         Value::Null => true,

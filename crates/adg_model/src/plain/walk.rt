@@ -3,7 +3,8 @@
 ghost use Rattle.std.specs.Prelude.{◌≡◌, ◌∷◌, IfOk, OnOk, option_copied};
 ghost use Rattle.std.specs.List.{position};
 ghost use Rattle.adg_model.specs.Log.{upto};
-ghost use Rattle.adg_model.specs.Database.{Database, after, database, place, played, same_place, struck};
+ghost use Rattle.adg_model.specs.Database.{Database, after, database, played, struck};
+ghost use Rattle.adg_base.specs.Address.{place, same_place};
 ghost use Rattle.adg_model.specs.Plain.{no_rows};
 
 use crate::admission::Columns;
