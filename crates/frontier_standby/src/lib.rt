@@ -1,0 +1,2 @@
+//! The standby over shards.
+#![tactic(auto)]
