@@ -11,6 +11,7 @@ use Rattle.feed_run.specs.declared.standby.Unanswered.{Unanswered}
 use Rattle.feed_run.specs.declared.standby.Unanswered.TheVariants.{Redo, NotBuilt, Memory}
 use Rattle.redo_intake.specs.Intake.{Taking, HasTaken}
 use Rattle.row_blocks.specs.Law.{IsLog}
+use Rattle.row_blocks.specs.declared.shard.Shard.{Shard}
 use Rattle.row_blocks.specs.Shards.{Shards, StandAt, shards_in}
 use Rattle.frontier_standby.specs.declared.standby.FrontierStandby.{FrontierStandby}
 use Rattle.frontier_standby.specs.Answering.{AreLinesAt, HasUnbuilt}
@@ -23,25 +24,26 @@ PassesAll old entries new =
     → StandAt old (first ++ entries) first 0 → StandAt new (first ++ entries) (first ++ entries) 0
 
 -- The redo of some deliveries was taken, and the shards have passed the whole merged log.
-pub record HasApplied (s : FrontierStandby) (threads : ℕ) (deliveries : List RawDelivery) : Type 0 where
-  pub taken : HasTaken s.intake threads deliveries
+pub record HasApplied (t : Taking) (shards : List Shard) (threads : ℕ) (deliveries : List RawDelivery) : Type 0 where
+  pub taken : HasTaken t threads deliveries
   pub is_log : IsLog (merged_log taken.records) (frontier taken.records)
-  pub count : length s.shards.items ≡ 64
-  pub stand : StandAt (shards_in s.shards.items) (merged_log taken.records) (merged_log taken.records) 0
+  pub count : length shards ≡ 64
+  pub stand : StandAt (shards_in shards) (merged_log taken.records) (merged_log taken.records) 0
 
--- with one delivery more its commands were answered at the frontier, which did not fall
-pub record AnswersDelivery {old : FrontierStandby} {threads : ℕ} {deliveries : List RawDelivery} (before : HasApplied old threads deliveries) (new : FrontierStandby) (delivery : RawDelivery) (lines : Lines) : Type 0 where
-  pub applied : HasApplied new threads (deliveries ++ delivery ∷ [])
+-- With one delivery more its commands were answered at the frontier, which did not fall.
+pub record AnswersDelivery {old : Taking} {was : List Shard} {threads : ℕ} {deliveries : List RawDelivery} (before : HasApplied old was threads deliveries) (new : Taking) (shards : List Shard) (sessions : ℕ) (delivery : RawDelivery) (lines : Lines) : Type 0 where
+  pub applied : HasApplied new shards threads (deliveries ++ delivery ∷ [])
   pub forward : frontier before.taken.records ≤ frontier applied.taken.records
-  pub answered : AreLinesAt (merged_log applied.taken.records) (frontier applied.taken.records) (all_asked old.sessions delivery.commands) lines.list
+  pub answered : AreLinesAt (merged_log applied.taken.records) (frontier applied.taken.records) (all_asked sessions delivery.commands) lines.list
   pub end : lines.end ≡ frontier applied.taken.records
 
--- or why they were not
-abbrev pub AnswersOne : {old : FrontierStandby} {threads : ℕ} {deliveries : List RawDelivery} → HasApplied old threads deliveries → FrontierStandby → RawDelivery → Result Lines Unanswered → Type 0
-AnswersOne before new delivery (Ok lines) = AnswersDelivery before new delivery lines
-AnswersOne {old} {threads} {deliveries} before new delivery (Err (Redo fault)) = IsRedoFault threads (deliveries ++ delivery ∷ []) fault
-AnswersOne {old} {threads} {deliveries} before new delivery (Err NotBuilt) = IsUnbuilt threads (deliveries ++ delivery ∷ [])
-AnswersOne before new delivery (Err Memory) = Unit {0}
+-- Or with it the redo has this fault, or it asks for what is not built, or memory is wanting.
+abbrev pub AnswersOne : {old : Taking} {was : List Shard} {threads : ℕ} {deliveries : List RawDelivery} → HasApplied old was threads deliveries
+    → Taking → List Shard → ℕ → RawDelivery → Result Lines Unanswered → Type 0
+AnswersOne before new shards sessions delivery (Ok lines) = AnswersDelivery before new shards sessions delivery lines
+AnswersOne {old} {was} {threads} {deliveries} before new shards sessions delivery (Err (Redo fault)) = IsRedoFault threads (deliveries ++ delivery ∷ []) fault
+AnswersOne {old} {was} {threads} {deliveries} before new shards sessions delivery (Err NotBuilt) = IsUnbuilt threads (deliveries ++ delivery ∷ [])
+AnswersOne before new shards sessions delivery (Err Memory) = Unit {0}
 
 -- the end of the last of some lines, or else one before them
 abbrev pub end_after : ℕ → List Lines → ℕ
@@ -59,7 +61,7 @@ pub record Transcribed (threads sessions : ℕ) (deliveries : List RawDelivery) 
 
 -- Deliveries were answered, and these bytes are their lines.
 pub record HasAnswered (s : FrontierStandby) (threads sessions : ℕ) (deliveries : List RawDelivery) (written : List ℕ) : Type 0 where
-  pub applied : HasApplied s threads deliveries
+  pub applied : HasApplied s.intake s.shards.items threads deliveries
   pub named : s.sessions ≡ sessions
   pub few : sessions ≤ 8
   pub delivered : s.delivered ≡ length deliveries

@@ -40,7 +40,8 @@ impl FrontierStandby {
         requires few { length delivery.commands < 2 ^ 32 }
         requires short { AllByRecursion (λ command. length command.text < 2 ^ 32) delivery.commands }
         requires sessions { self.old.sessions < 2 ^ 8 - 1 }
-        ensures answers { (threads : ℕ) (deliveries : ListOf Delivery) (before : HasApplied self.old threads deliveries) → AnswersOne before self.new delivery result }
+        ensures answers { (threads : ℕ) (deliveries : ListOf Delivery) (before : HasApplied self.old.intake self.old.shards.items threads deliveries) →
+            AnswersOne before self.new.intake self.new.shards.items self.old.sessions delivery result }
         ensures sessions { self.new.sessions ≡ self.old.sessions }
         ensures delivered { self.new.delivered ≡ self.old.delivered }
     {

@@ -1,0 +1,14 @@
+use Rattle.std.proofs.Common.{[]}
+use Rattle.frontier_standby.proofs.LineLaws.{adds-none, adds-join, adds-all, all-more}
+use Rattle.frontier_standby.proofs.answer.answer_all.Goals as goal
+
+pub loop-before-init : goal.loop-before-init
+loop-before-init c log come = adds-none log c.args.frontier []
+
+pub loop-before-preserved : goal.loop-before-preserved
+loop-before-preserved c log come =
+    rw (all-more c.loop-before.before c.args.commands.now)
+    (adds-join log c.args.frontier _ _ [] c.loop-before.lines c.answer_session.new.lines (c.loop-before.invariant log come) (c.in_ok-answer_session.ensures.ok log come))
+
+pub returns-clause-ok : goal.returns-clause-ok
+returns-clause-ok c log come = adds-all log c.args.frontier _ _ (c.loop-before.invariant log come)
