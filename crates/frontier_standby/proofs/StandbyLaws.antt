@@ -1,5 +1,5 @@
 -- What the standby over shards has answered, with one delivery more, and why it answers none.
-use Rattle.std.proofs.Common.{◌≡◌, ◌++◌, ◌+◌, ◌-◌, ◌≤◌, ◌<◌, ◌^◌, ℕ, List, [], ◌∷◌, length, length-append, ◌∙◌, ap, sym, subst, refl, arith, Err}
+use Rattle.std.proofs.Common.{◌≡◌, ◌++◌, ◌+◌, ◌-◌, ◌≤◌, ◌<◌, ◌^◌, ℕ, List, [], ◌∷◌, length, take, drop, length-append, ◌∙◌, ap, sym, subst, refl, arith, Err}
 use Rattle.std.specs.List.{AllByRecursion}
 use Rattle.std.proofs.lemmas.List.{length-map}
 use Rattle.adg_base.specs.declared.command.CommandText.{CommandText}
@@ -32,6 +32,10 @@ use Rattle.frontier_standby.specs.Standing.{PassesAll, HasApplied, AnswersDelive
 use Rattle.frontier_standby.proofs.TranscriptLaws.{delivery-built, each-more, transcribed-more}
 
 -- ---- one delivery is taken
+
+-- what is written through all of a list takes its place
+pub written-back : {X : Type 0} (n : ℕ) (new old : List X) → length new ≡ n → take n (new ++ drop (length new) old) ≡ new
+written-back n new old e = ?
 
 pub have-come : (t : Taking) (shards : List Shard) (threads : ℕ) (ds : List RawDelivery) (h : HasApplied t shards threads ds) → HaveCome t.dictionary (shards_in shards) (frontier h.taken.records) (merged_log h.taken.records)
 have-come t shards threads ds h = record { is_log = h.is_log; stands = h.taken.known; stand = h.stand }

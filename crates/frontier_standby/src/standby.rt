@@ -1,11 +1,6 @@
-ghost use Rattle.std.specs.Prelude.{◌≡◌, ℕ, ◌+◌, ◌<◌, ◌-◌, ◌^◌, List as ListOf, length, OnOk};
-ghost use Rattle.std.specs.List.{AllByRecursion};
-ghost use Rattle.adg_model.specs.declared.delivery.RawDelivery.{RawDelivery as Delivery};
-ghost use Rattle.adg_model.specs.Feed.{IsIn};
-ghost use Rattle.log_merger.specs.Merger.{highest_number};
-ghost use Rattle.redo_intake.specs.Intake.{bytes_of};
-ghost use Rattle.row_blocks.specs.Shards.{AreNumbered, shards_in};
-ghost use Rattle.frontier_standby.specs.Standing.{HasApplied, AnswersOne};
+ghost use Rattle.std.specs.Prelude.{◌≡◌};
+ghost use Rattle.feed_run.specs.Standby.{IsNext};
+ghost use Rattle.frontier_standby.specs.Standing.{AnswersOne, HasAnswered};
 
 use crate::answer::answer_all;
 use crate::apply::apply_all;
@@ -33,15 +28,8 @@ impl FrontierStandby {
     /// Takes the redo of a delivery and applies it whole, and then answers its commands at the
     /// frontier, session by session.
     fn answer(&mut self, alloc: Global, delivery: RawDelivery) -> Result<Lines, Unanswered>
-        requires threads { AllByRecursion (λ piece. IsIn (length self.old.intake.merger.threads) piece.thread) delivery.pieces }
-        requires room { highest_number self.old.intake.merger + length (bytes_of delivery.pieces) < 2 ^ 64 }
-        requires count { length self.old.shards.items ≡ 64 }
-        requires numbers { AreNumbered (shards_in self.old.shards.items) }
-        requires few { length delivery.commands < 2 ^ 32 }
-        requires short { AllByRecursion (λ command. length command.text < 2 ^ 32) delivery.commands }
-        requires sessions { self.old.sessions < 2 ^ 8 - 1 }
-        ensures answers { (threads : ℕ) (deliveries : ListOf Delivery) (before : HasApplied self.old.intake self.old.shards.items threads deliveries) →
-            AnswersOne before self.new.intake self.new.shards.items self.old.sessions delivery result }
+        requires { IsNext (HasAnswered self.old) delivery }
+        ensures answers { (next : IsNext (HasAnswered self.old) delivery) → AnswersOne next.has.applied self.new.intake self.new.shards.items self.old.sessions delivery result }
         ensures sessions { self.new.sessions ≡ self.old.sessions }
         ensures delivered { self.new.delivered ≡ self.old.delivered }
     {
@@ -72,7 +60,6 @@ impl FrontierStandby {
 
 impl Standby for FrontierStandby {
     ghost use Rattle.frontier_standby.specs.Ran.{IsUnbuilt};
-    ghost use Rattle.frontier_standby.specs.Standing.{HasAnswered};
 
     /// The number of workers, of which there are none yet.
     type Setup = u8;

@@ -1,9 +1,10 @@
-use Rattle.std.proofs.Common.{[]}
+use Rattle.std.proofs.Common.{[], sym, subst}
+use Rattle.frontier_standby.specs.Answering.{AddsLines}
 use Rattle.frontier_standby.proofs.LineLaws.{adds-none, adds-join, adds-all, all-more}
 use Rattle.frontier_standby.proofs.answer.answer_all.Goals as goal
 
 pub loop-before-init : goal.loop-before-init
-loop-before-init c log come = adds-none log c.args.frontier []
+loop-before-init c log come = subst (AddsLines log c.args.frontier [] []) (sym c.new-lines.ensures) (adds-none log c.args.frontier [])
 
 pub loop-before-preserved : goal.loop-before-preserved
 loop-before-preserved c log come =
@@ -11,4 +12,4 @@ loop-before-preserved c log come =
     (adds-join log c.args.frontier _ _ [] c.loop-before.lines c.answer_session.new.lines (c.loop-before.invariant log come) (c.in_ok-answer_session.ensures.ok log come))
 
 pub returns-clause-ok : goal.returns-clause-ok
-returns-clause-ok c log come = adds-all log c.args.frontier _ _ (c.loop-before.invariant log come)
+returns-clause-ok c log come = ?

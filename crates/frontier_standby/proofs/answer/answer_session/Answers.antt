@@ -2,6 +2,7 @@ use Rattle.std.proofs.Common.{◌≡◌, ◌∙◌, ℕ, ◌+◌, ◌∷◌, [],
 use Rattle.std.proofs.lemmas.Result.{err_from_is_err_and}
 use Rattle.std.proofs.lemmas.List.Elements.{Contains-get_or}
 use Rattle.adg_model.specs.Transcript.{texts_of}
+use Rattle.frontier_scan.specs.Reply.{AsksUnbuilt}
 use Rattle.frontier_standby.specs.Answering.{AddsLines}
 use Rattle.frontier_standby.proofs.LineLaws.{adds-none, adds-join, asked-own, texts-other, count-own}
 use Rattle.frontier_standby.proofs.answer.answer_session.Goals as goal
@@ -15,7 +16,7 @@ returns-in_err-answer_one-clause-not_built c refused =
     record {
       command = c.command-item.result;
       among = subst (λ x. Contains c.args.commands.now x) (sym c.command-item.is) (Contains-get_or c.args.commands.now i c.command-item.result c.loop-command-test.true);
-      unbuilt = c.in_err-answer_one.ensures.not_built (cc (p.1, q, refused));
+      unbuilt = subst AsksUnbuilt c.as_slice.ensures (c.in_err-answer_one.ensures.not_built (cc (p.1, q, refused)));
     }
 
 pub loop-command-init : goal.loop-command-init
@@ -35,7 +36,8 @@ loop-command-preserved c =
         lines = λ log come.
             let one = w.in_ok-answer_one.ensures.ok log come in
             let at : c.loop-command.answered + 1 ≡ 1 + length (texts_of s (take i cs)) = omega (arith, inv.number) in
-            let own = subst (λ (k : ℕ). AddsLines log c.args.frontier (record { session = s; number = k; text = item.text } ∷ []) c.loop-command.lines w.answer_one.new.lines) at one in
+            let text = subst (λ (t : List ℕ). AddsLines log c.args.frontier (record { session = s; number = c.loop-command.answered + 1; text = t } ∷ []) c.loop-command.lines w.answer_one.new.lines) w.as_slice.ensures one in
+            let own = subst (λ (k : ℕ). AddsLines log c.args.frontier (record { session = s; number = k; text = item.text } ∷ []) c.loop-command.lines w.answer_one.new.lines) at text in
             rw (asked-own s cs i item c.loop-command-test.true c.command-item.is w.if-command-session.true, w.lines-is)
             (adds-join log c.args.frontier _ _ _ _ _ (inv.lines log come) own);
       }
