@@ -1,6 +1,7 @@
 -- What the standby over shards has answered, with one delivery more, and why it answers none.
 use Rattle.std.proofs.Common.{◌≡◌, ◌++◌, ◌+◌, ◌-◌, ◌≤◌, ◌<◌, ◌^◌, ℕ, List, [], ◌∷◌, length, take, drop, length-append, ◌∙◌, ap, sym, subst, refl, arith, Err}
 use Rattle.std.specs.List.{AllByRecursion}
+use Rattle.std.proofs.Math.Seq.{take-append_seam}
 use Rattle.std.proofs.lemmas.List.{length-map}
 use Rattle.adg_base.specs.declared.command.CommandText.{CommandText}
 use Rattle.adg_base.specs.declared.log.LogEntry.{LogEntry}
@@ -35,7 +36,7 @@ use Rattle.frontier_standby.proofs.TranscriptLaws.{delivery-built, each-more, tr
 
 -- what is written through all of a list takes its place
 pub written-back : {X : Type 0} (n : ℕ) (new old : List X) → length new ≡ n → take n (new ++ drop (length new) old) ≡ new
-written-back n new old e = ?
+written-back n new old e = ap (λ (m : ℕ). take m (new ++ drop (length new) old)) (sym e) ∙ take-append_seam new (drop (length new) old)
 
 pub have-come : (t : Taking) (shards : List Shard) (threads : ℕ) (ds : List RawDelivery) (h : HasApplied t shards threads ds) → HaveCome t.dictionary (shards_in shards) (frontier h.taken.records) (merged_log h.taken.records)
 have-come t shards threads ds h = record { is_log = h.is_log; stands = h.taken.known; stand = h.stand }

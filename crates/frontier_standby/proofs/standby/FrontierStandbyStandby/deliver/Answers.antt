@@ -13,5 +13,5 @@ overflow_add-self c = let m = (may-answer c.args.self.now c.args.delivery c.requ
 
 pub returns : goal.returns
 returns c next =
-    answered-more c.args.self.now c.args.delivery next _ c.in_ok-lines.field-0 c.in_ok-text.field-0 (c.in_ok-lines.ensures.answers next) c.in_ok-lines.ensures.sessions
+    answered-more c.args.self.now c.args.delivery next _ c.in_ok-lines.lines c.in_ok-text.text (c.in_ok-lines.ensures.answers next) c.in_ok-lines.ensures.sessions
     (ap (λ (n : ℕ). n + 1) c.in_ok-lines.ensures.delivered) c.in_ok-text.ensures
