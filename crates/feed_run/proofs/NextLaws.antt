@@ -5,7 +5,7 @@ use Rattle.std.proofs.lemmas.List.Sums.{sum_by-cons}
 use Rattle.adg_base.specs.declared.command.CommandText.{CommandText}
 use Rattle.adg_model.specs.declared.delivery.RawDelivery.{RawDelivery}
 use Rattle.adg_model.specs.declared.delivery.RedoPiece.{RedoPiece}
-use Rattle.adg_model.specs.Feed.{Item, Redo, Asks, Schedules, Standing, AreItems, IsDelivery, IsIn, piece_of, command_of, redo_len, redo_total, start, after_delivery, after_deliveries, most_redo, most_payload, most_deliveries}
+use Rattle.adg_model.specs.Feed.{Item, Redo, Asks, Schedules, Standing, AreItems, IsDelivery, IsIn, piece_of, command_of, redo_len, redo_total, start, after_delivery, after_deliveries, most_redo, most_payload, most_deliveries, most_text}
 use Rattle.adg_model.specs.Records.{bytes_for, thread_text}
 use Rattle.adg_model.proofs.FeedLaws.{few_commands, own_sessions, after_threads, after_sessions, ends_count, redo_within}
 use Rattle.feed_run.specs.Standby.{Meaning, IsNext, deliveries_of}
@@ -44,6 +44,13 @@ own_threads st before (Redo t b ∷ items) h = (h.0.0, own_threads st (before ++
 own_threads st before (Asks s t ∷ items) h = own_threads st (before ++ Asks s t ∷ []) items h.1
 own_threads st before (Schedules b ∷ items) h = own_threads st (before ++ Schedules b ∷ []) items h.1
 
+-- no text of a command is longer than it may be
+short_texts : (st : Standing) (before items : List Item) → AreItems st before items → AllByRecursion (λ (c : CommandText). length c.text ≤ most_text) (filter_map command_of items)
+short_texts st before [] h = tt
+short_texts st before (Redo t b ∷ items) h = short_texts st (before ++ Redo t b ∷ []) items h.1
+short_texts st before (Asks s t ∷ items) h = (h.0.1, short_texts st (before ++ Asks s t ∷ []) items h.1)
+short_texts st before (Schedules b ∷ items) h = short_texts st (before ++ Schedules b ∷ []) items h.1
+
 module _ (answered : Meaning) (d : RawDelivery) (next : IsNext answered d) where
   is_delivery : IsDelivery (after_deliveries (start next.threads next.sessions) next.before) next.items
   is_delivery = last_delivery (start next.threads next.sessions) next.before next.items next.feed.1
@@ -62,6 +69,13 @@ module _ (answered : Meaning) (d : RawDelivery) (next : IsNext answered d) where
       let own = own_sessions st next.items is_delivery.0 in
       subst (λ (k : RawDelivery). AllByRecursion (λ (c : CommandText). IsIn next.sessions c.session) k.commands) (sym next.brings)
       (subst (λ (s : ℕ). AllByRecursion (λ (c : CommandText). IsIn s c.session) (filter_map command_of next.items)) (after_sessions (start next.threads next.sessions) next.before) own)
+
+  -- each command has a text of at most so many bytes
+  pub next-texts : AllByRecursion (λ (c : CommandText). length c.text ≤ most_text) d.commands
+  next-texts =
+      let st : Standing = after_deliveries (start next.threads next.sessions) next.before in
+      subst (λ (k : RawDelivery). AllByRecursion (λ (c : CommandText). length c.text ≤ most_text) k.commands) (sym next.brings)
+      (short_texts st [] next.items is_delivery.0)
 
   -- each of its pieces is of a thread of the feed
   pub next_threads : AllByRecursion (λ (p : RedoPiece). IsIn next.threads p.thread) d.pieces

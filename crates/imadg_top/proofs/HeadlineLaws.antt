@@ -6,10 +6,11 @@ use Rattle.feed_run.specs.Headline as run
 use Rattle.feed_run.specs.Standby.{SomeAnswered}
 use Rattle.feed_run.specs.View.{SourceView, SinkView}
 use Rattle.feed_run.proofs.Weaker.{some_weaker, ends_weaker, headline_weaker}
-use Rattle.imadg_top.specs.Headline.{RanAll, IsUnbuilt, Ends, Headline}
-use Rattle.imadg_top.specs.Progress.{HasAnswered}
+use Rattle.frontier_standby.specs.Ran.{RanAll, IsUnbuilt}
+use Rattle.frontier_standby.specs.Standing.{HasAnswered}
+use Rattle.frontier_standby.proofs.RanLaws.{ran_all, ran_none}
+use Rattle.imadg_top.specs.Headline.{Ends, Headline}
 use Rattle.imadg_top.specs.Words.{workers_of}
-use Rattle.imadg_top.proofs.ProgressLaws.{ran_all, ran_none}
 
 -- the words were accepted and the feed was run
 pub headline_run : (words : List (List ℕ)) (workers : ℕ) → workers_of words ≡ Some workers → (source source_now : SourceView) (sink sink_now : SinkView) (outcome : Outcome)

@@ -1,12 +1,13 @@
 -- Before the first delivery.
-use Rattle.std.proofs.Common.{◌≡◌, ℕ, zero, suc, ◌+◌, List, [], ◌∷◌, length, None, inl, refl, sym, ap, subst, arith}
+use Rattle.std.proofs.Common.{◌≡◌, ℕ, zero, suc, ◌+◌, List, [], ◌∷◌, length, None, inl, refl, sym, ap, subst, arith, ◌∙◌}
 use Rattle.adg_base.specs.declared.vector.RedoRecord.{RedoRecord}
 use Rattle.adg_base.specs.declared.log.LogEntry.{LogEntry}
 use Rattle.adg_model.specs.Records.{first_mark, record_fault, HasRecords}
 use Rattle.adg_model.specs.Log.{frontier, entries_from, in_order, numbered, upto, merged_log, ReceivedFrom}
+use Rattle.adg_model.proofs.DeliveryLaws.{records_are_determined}
 use Rattle.log_merger.specs.Merger.{Merging, StandsFor as Merges, no_texts}
 use Rattle.dictionary.specs.Standing.{Known, StandsFor}
-use Rattle.redo_intake.specs.Intake.{HasTaken}
+use Rattle.redo_intake.specs.Intake.{Taking, HasTaken}
 
 -- so many threads without a record
 silent : ℕ → List (List RedoRecord)
@@ -49,3 +50,19 @@ nothing_taken m k threads many stands good known = record {
   many = many;
   good = good;
 }
+
+-- the records of so many threads before the first delivery, whose merged log is empty
+pub record Nothing (threads : ℕ) : Type 0 where
+  pub records : List (List RedoRecord)
+  pub all : length records ≡ threads
+  pub received : ReceivedFrom 1 [] records
+  pub none : merged_log records ≡ []
+
+pub nothing : (threads : ℕ) → Nothing threads
+nothing threads = record { records = silent threads; all = length_silent threads; received = received_silent 1 threads; none = log_silent threads }
+
+-- there are no other records
+pub nothing-logged : (t : Taking) (threads : ℕ) (h : HasTaken t threads []) → merged_log h.records ≡ []
+nothing-logged t threads h =
+    ap (λ (r : List (List RedoRecord)). merged_log r) (records_are_determined [] h.records (silent threads) (h.all ∙ sym (length_silent threads)) h.received (received_silent 1 threads))
+    ∙ log_silent threads
