@@ -42,7 +42,7 @@ pub have-come : (t : Taking) (shards : List Shard) (threads : ℕ) (ds : List Ra
 have-come t shards threads ds h = record { is_log = h.is_log; stands = h.taken.known; stand = h.stand }
 
 module _ (old : Taking) (was : List Shard) (threads : ℕ) (ds : List RawDelivery) (d : RawDelivery) (before : HasApplied old was threads ds) (new : Taking) (checked : CheckedDelivery)
-  (checks : Checks before.taken new d checked) where
+    (checks : Checks before.taken new d checked) where
   log-now : IsLog (merged_log before.taken.records ++ checked.entries) (frontier checks.taken.records)
   log-now = log_continued (merged_log before.taken.records) checked.entries (frontier before.taken.records) (frontier checks.taken.records) before.is_log checks.continues
 

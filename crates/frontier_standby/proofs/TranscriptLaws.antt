@@ -142,8 +142,8 @@ ends-at log f (a ∷ qs) (l ∷ ls) h = (record { at_end = h.0.reply.at_frontier
 
 -- The lines of one delivery more, at a frontier that is not below the one before.
 module _ (threads sessions : ℕ) (ds : List RawDelivery) (d : RawDelivery) (written : List ℕ) (floor : ℕ) (t : Transcribed threads sessions ds written floor)
-  (records : List (List RedoRecord)) (ls : List Line) (own : AllByRecursion (λ (c : CommandText). IsIn sessions c.session) d.commands)
-  (answered : AreLinesAt (merged_log records) (frontier records) (all_asked sessions d.commands) ls) where
+    (records : List (List RedoRecord)) (ls : List Line) (own : AllByRecursion (λ (c : CommandText). IsIn sessions c.session) d.commands)
+    (answered : AreLinesAt (merged_log records) (frontier records) (all_asked sessions d.commands) ls) where
   one-legal : floor ≤ frontier records → IsLegal sessions (merged_log records) (end_after 0 t.lines) (frontier records) d.commands (record { list = ls; end = frontier records })
   one-legal up =
       legal sessions (end_after 0 t.lines) (frontier records) (merged_log records) d.commands ls (omega (arith, t.last, up))

@@ -12,12 +12,12 @@ use crate::condition::meets_all;
 use crate::group::Groups;
 use crate::seen::Seen;
 use crate::tally::{Tally, add_cells, add_empty, add_row, join_all};
-use adg_base::value_ref::RowView;
 use adg_base::answer::{Answer, CellList};
 use adg_base::command::{Aggregate, Select, What};
 use adg_base::definition::Definition;
 use adg_base::list::{Duplicate, List};
 use adg_base::memory::Memory;
+use adg_base::value_ref::RowView;
 use std::alloc::Global;
 use std::marker::Model;
 

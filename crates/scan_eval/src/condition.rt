@@ -6,8 +6,8 @@ ghost use Rattle.adg_model.specs.Query as query;
 ghost use Rattle.adg_model.specs.Query.{allows, value_in};
 ghost use Rattle.adg_base.specs.Values.{is_null, value_cmp, shown};
 
-use adg_base::value_ref::{RowView, ValueRef};
 use adg_base::command::{Condition, Op};
+use adg_base::value_ref::{RowView, ValueRef};
 use adg_model::comparison::is_allowed;
 
 /// Whether a row meets all conditions.

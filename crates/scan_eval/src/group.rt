@@ -15,12 +15,12 @@ use crate::condition::value_in;
 use crate::key_index::KeyIndex;
 use crate::seen::Seen;
 use crate::tally::{Tally, add_cells, add_empty, add_row_at, join_all_at, part};
-use adg_base::value_ref::{RowView, ValueRef};
 use adg_base::answer::{Answer, Cell, CellList};
 use adg_base::command::Aggregate;
 use adg_base::list::List;
 use adg_base::memory::Memory;
 use adg_base::value::Value;
+use adg_base::value_ref::{RowView, ValueRef};
 use std::alloc::Global;
 use std::cmp::Ordering;
 

@@ -5,8 +5,8 @@ ghost use Rattle.adg_base.specs.declared.value.Value.{Value as Datum};
 ghost use Rattle.adg_base.specs.Values.{shown, same};
 ghost use Rattle.scan_eval.specs.KeyIndex.{place_at};
 
-use adg_base::value_ref::ValueRef;
 use adg_base::memory::Memory;
+use adg_base::value_ref::ValueRef;
 use std::alloc::Global;
 use std::collections::HashMap;
 
