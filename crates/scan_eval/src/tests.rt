@@ -24,7 +24,7 @@ mod tables;
 
 fn value_of(alloc: Global, value: Short) -> Result<Value, Memory> {
     match value {
-        Short::Null => Ok(Value::Null),
+        Short::Absent | Short::Null => Ok(Value::Null),
         Short::Int(number) => Ok(Value::Int(number)),
         Short::Text(text) => match Text::new(alloc, text.as_bytes()) {
             Ok(text) => Ok(Value::Text(text)),
@@ -34,7 +34,11 @@ fn value_of(alloc: Global, value: Short) -> Result<Value, Memory> {
 }
 
 fn row_of(alloc: Global, number: Short, name: Short) -> Result<Row, Memory> {
-    let values = vec![in alloc; value_of(alloc, number)?, value_of(alloc, name)?]?;
+    let mut values = vec![in alloc; value_of(alloc, number)?]?;
+    match name {
+        Short::Absent => {}
+        _ => values.push(value_of(alloc, name)?)?,
+    }
     Row::from_vec(alloc, values)
 }
 
@@ -54,6 +58,7 @@ fn rows_of(alloc: Global, rows: Rows) -> Result<RowList, Memory> {
         Rows::Greatest => list_of(alloc, tables::GREATEST.as_slice()),
         Rows::Least => list_of(alloc, tables::LEAST.as_slice()),
         Rows::Nulls => list_of(alloc, tables::NULLS.as_slice()),
+        Rows::Narrow => list_of(alloc, tables::NARROW.as_slice()),
     }
 }
 

@@ -2,14 +2,15 @@
 //! semicolon.
 
 use Ask::{All, Both, By, Of, Where, WhereBy};
-use Rows::{Empty, Five, Greatest, Least, Mixed, Nulls};
-use Short::{Int, Null, Text};
+use Rows::{Empty, Five, Greatest, Least, Mixed, Narrow, Nulls};
+use Short::{Absent, Int, Null, Text};
 use Sums::{Counted, Fourth, Names, NamesSummed, Numbers, Third};
 use adg_base::command::Op;
 
-/// A value written short.
+/// A value written short, `Absent` where the row ends before it.
 #[derive(Clone, Copy)]
 pub enum Short {
+    Absent,
     Null,
     Int(i64),
     Text(&'static str),
@@ -54,6 +55,7 @@ pub enum Rows {
     Greatest,
     Least,
     Nulls,
+    Narrow,
 }
 
 /// What a case shows, the rows, the query and its answer.
@@ -86,7 +88,15 @@ pub static LEAST: [(Short, Short); 2] = [(Int(i64::MIN), Null), (Int(i64::MIN), 
 
 pub static NULLS: [(Short, Short); 2] = [(Null, Null), (Null, Null)];
 
-pub static CONDITIONS: [Case; 26] = [
+pub static NARROW: [(Short, Short); 2] = [(Int(4), Absent), (Int(3), Absent)];
+
+pub static CONDITIONS: [Case; 27] = [
+    (
+        "a name that no row has",
+        Narrow,
+        Where((2, Op::Ne, Text("a"))),
+        "",
+    ),
     (
         "number =",
         Mixed,
@@ -180,7 +190,8 @@ pub static CONDITIONS: [Case; 26] = [
     ),
 ];
 
-pub static AGGREGATES: [Case; 13] = [
+pub static AGGREGATES: [Case; 14] = [
+    ("names that no row has", Narrow, Of(Names), "2|NULL|NULL|;"),
     (
         "the rows",
         Greatest,
@@ -226,7 +237,13 @@ pub static AGGREGATES: [Case; 13] = [
     ),
 ];
 
-pub static GROUPS: [Case; 8] = [
+pub static GROUPS: [Case; 9] = [
+    (
+        "by names that no row has",
+        Narrow,
+        By(2, Numbers),
+        "NULL|2|7|3|4|;",
+    ),
     (
         "by names",
         Five,
