@@ -22,7 +22,7 @@ use std::alloc::Global;
 use std::marker::Model;
 
 /// A query with what it needs of the rows that were added so far. Contracts see the query and the
-/// list of these rows. After want of memory it answers `Memory` to each further call.
+/// list of these rows. After want of memory it has no answer any more: `finish` says `Memory`.
 #[derive(Drop)]
 pub struct Accumulator {
     select: Select,
