@@ -16,7 +16,7 @@ add_rows-requires g c =
     let items = c.read_block.new.rows.items in
     let old = c.loop-block.accumulator.rows in
     let block = filter_map (row_in s c.args.q) (block_places obj n) in
-    let read : lent items ≡ block = c.in_ok-read_block.ensures.rows ∙ ap (λ rs. lent rs ++ block) c.clear.ensures.items in
+    let read : lent items ≡ block = ◌∙◌ {b = lent c.clear.new.self.items ++ block} c.in_ok-read_block.ensures.rows (ap (λ rs. lent rs ++ block) c.clear.ensures.items) in
     let below : n < 2 ^ 16 = omega (arith, c.loop-block-test.true, c.ranges.blocks.fits) in
     let on : IsReadOn s c.args.q obj n c.args.def.now.width c.loop-block.row (length items) old (lent items) =
     read_on s c.args.q obj n c.args.def.now.width c.loop-block.row (length items) old (lent items) below c.loop-block.invariant.row c.loop-block.invariant.rows read (sym (length-map items (λ r. r.now))) in
@@ -31,7 +31,7 @@ overflow_add-row g c =
     let items = c.read_block.new.rows.items in
     let old = c.loop-block.accumulator.rows in
     let block = filter_map (row_in s c.args.q) (block_places obj n) in
-    let read : lent items ≡ block = c.in_ok-read_block.ensures.rows ∙ ap (λ rs. lent rs ++ block) c.clear.ensures.items in
+    let read : lent items ≡ block = ◌∙◌ {b = lent c.clear.new.self.items ++ block} c.in_ok-read_block.ensures.rows (ap (λ rs. lent rs ++ block) c.clear.ensures.items) in
     let below : n < 2 ^ 16 = omega (arith, c.loop-block-test.true, c.ranges.blocks.fits) in
     let on : IsReadOn s c.args.q obj n c.args.def.now.width c.loop-block.row (length items) old (lent items) =
     read_on s c.args.q obj n c.args.def.now.width c.loop-block.row (length items) old (lent items) below c.loop-block.invariant.row c.loop-block.invariant.rows read (sym (length-map items (λ r. r.now))) in
@@ -45,7 +45,7 @@ loop-block-preserved g c =
     let items = c.read_block.new.rows.items in
     let old = c.loop-block.accumulator.rows in
     let block = filter_map (row_in s c.args.q) (block_places obj n) in
-    let read : lent items ≡ block = c.in_ok-read_block.ensures.rows ∙ ap (λ rs. lent rs ++ block) c.clear.ensures.items in
+    let read : lent items ≡ block = ◌∙◌ {b = lent c.clear.new.self.items ++ block} c.in_ok-read_block.ensures.rows (ap (λ rs. lent rs ++ block) c.clear.ensures.items) in
     let below : n < 2 ^ 16 = omega (arith, c.loop-block-test.true, c.ranges.blocks.fits) in
     let on : IsReadOn s c.args.q obj n c.args.def.now.width c.loop-block.row (length items) old (lent items) =
     read_on s c.args.q obj n c.args.def.now.width c.loop-block.row (length items) old (lent items) below c.loop-block.invariant.row c.loop-block.invariant.rows read (sym (length-map items (λ r. r.now))) in
