@@ -9,7 +9,7 @@ use Rattle.adg_base.specs.Address.{Place}
 use Rattle.adg_base.specs.declared.value.Value.{Value}
 use Rattle.adg_base.specs.declared.log.LogEntry.{LogEntry}
 use Rattle.adg_model.specs.Database.{Rows, place, rows_at}
-use Rattle.adg_model.specs.Query.{block_places, object_places, object_rows, padded}
+use Rattle.adg_model.specs.Query.{block_places, object_rows, padded}
 use Rattle.row_blocks.specs.Law.{IsLog}
 use Rattle.row_blocks.specs.Lent.{lent}
 use Rattle.row_blocks.specs.Stands.{IsSlot}

@@ -1,4 +1,4 @@
-use Rattle.std.proofs.Common.{◌≡◌, ◌+◌, ◌++◌, length, map, ap, ap₂, ◌∙◌, arith}
+use Rattle.std.proofs.Common.{◌++◌, length, map, ap, ap₂, ◌∙◌, arith}
 use Rattle.adg_model.specs.Query.{padded}
 use Rattle.row_blocks.specs.Lent.{lent}
 use Rattle.row_blocks.specs.Shards.{shards_in}
