@@ -1,5 +1,6 @@
 -- Lemmas on the rows of the blocks of an object.
 use Rattle.std.proofs.Common.{◌≡◌, ℕ, zero, suc, ◌+◌, ◌*◌, ◌<◌, ◌≤◌, ◌^◌, List, [], ◌∷◌, ◌++◌, length, map, Option, Some, None, refl, sym, ap, ap₂, ◌∙◌, arith}
+use Rattle.std.specs.Borrow.{Bor}
 use Rattle.std.specs.List.{flat_map, filter_map, range_with_len}
 use Rattle.std.proofs.lemmas.Grind.{flat_map-append}
 use Rattle.std.proofs.lemmas.List.{length-map, map-append, append-nil, length-append}
@@ -8,8 +9,9 @@ use Rattle.adg_base.specs.Address.{Place}
 use Rattle.adg_base.specs.declared.value.Value.{Value}
 use Rattle.adg_base.specs.declared.log.LogEntry.{LogEntry}
 use Rattle.adg_model.specs.Database.{Rows, place, rows_at}
-use Rattle.adg_model.specs.Query.{block_places, object_places, object_rows, padded}
+use Rattle.adg_model.specs.Query.{block_places, object_rows, padded}
 use Rattle.row_blocks.specs.Law.{IsLog}
+use Rattle.row_blocks.specs.Lent.{lent}
 use Rattle.row_blocks.specs.Stands.{IsSlot}
 use Rattle.row_blocks.specs.Shards.{Shards, StandAt, row_in}
 use Rattle.row_blocks.proofs.Together.{passed_give_rows}
@@ -99,7 +101,7 @@ pub record IsReadOn (shards : Shards) (q obj n width row count : ℕ) (old read 
   pub rows : old ++ map (padded width) read ≡ map (padded width) (rows_in_blocks shards q obj (n + 1))
   pub row_more : row + count ≡ length (rows_in_blocks shards q obj (n + 1))
 
-pub read_on : (shards : Shards) (q obj n width row count : ℕ) (old read : List (List Value)) → n < 2 ^ 16 → row ≡ length (rows_in_blocks shards q obj n)
+read_on : (shards : Shards) (q obj n width row count : ℕ) (old read : List (List Value)) → n < 2 ^ 16 → row ≡ length (rows_in_blocks shards q obj n)
     → old ≡ map (padded width) (rows_in_blocks shards q obj n) → read ≡ filter_map (row_in shards q) (block_places obj n) → count ≡ length read
     → IsReadOn shards q obj n width row count old read
 read_on shards q obj n width row count old read below rows so_far block counted =
@@ -116,3 +118,11 @@ read_on shards q obj n width row count old read below rows so_far block counted 
       rows = ap₂ (λ a b. a ++ map (padded width) b) so_far block ∙ sym (map-append (padded width) before one) ∙ ap (map (padded width)) (sym (rows_more shards q obj n));
       row_more = omega (arith, rows, size_more, counted, whole);
     }
+
+-- the same of the references that were read into an empty list
+pub lent_on : (shards : Shards) (q obj n width row : ℕ) (old : List (List Value)) (cleared items : List (Bor (List Value))) → n < 2 ^ 16
+    → row ≡ length (rows_in_blocks shards q obj n) → old ≡ map (padded width) (rows_in_blocks shards q obj n) → cleared ≡ []
+    → lent items ≡ lent cleared ++ filter_map (row_in shards q) (block_places obj n) → IsReadOn shards q obj n width row (length items) old (lent items)
+lent_on shards q obj n width row old cleared items below rows so_far none read =
+    read_on shards q obj n width row (length items) old (lent items) below rows so_far
+    (read ∙ ap (λ rs. lent rs ++ filter_map (row_in shards q) (block_places obj n)) none) (sym (length-map items (λ r. r.now)))

@@ -1,5 +1,5 @@
 -- The objects of a sound log have at most 256 extents.
-use Rattle.std.proofs.Common.{◌≡◌, ℕ, ◌≤◌, ◌==◌, nat_le, Bool, true, false, cond, filter, List, [], ◌∷◌, Option, Some, None, refl, sym, ap, ◌∙◌, arith}
+use Rattle.std.proofs.Common.{◌≡◌, ℕ, ◌≤◌, ◌==◌, Bool, true, false, cond, List, [], ◌∷◌, Option, Some, None, arith}
 use Rattle.std.specs.List.{AllByRecursion}
 use Rattle.adg_base.specs.declared.value.ColKind.{ColKind}
 use Rattle.adg_base.specs.declared.vector.Vector.{Vector}

@@ -1,19 +1,17 @@
 -- The replies to a query have their meaning.
-use Rattle.std.proofs.Common.{◌≡◌, ℕ, ◌+◌, ◌*◌, ◌≤◌, Bool, true, false, cond, List, length, map, take, Option, Some, None, Result, Ok, Err, refl, sym, ap, ap₂, ◌∙◌, arith, ⊎_elim}
+use Rattle.std.proofs.Common.{◌≡◌, ℕ, ◌*◌, ◌≤◌, Bool, true, false, cond, List, length, map, take, Option, Some, None, Ok, Err, refl, sym, ap, ap₂, ◌∙◌, arith, ⊎_elim}
 use Rattle.adg_base.specs.declared.log.LogEntry.{LogEntry}
 use Rattle.adg_base.specs.declared.command.Select.{Select}
 use Rattle.adg_base.specs.declared.command.Command.TheVariants as command
-use Rattle.adg_base.specs.declared.answer.Cell.{Cell}
 use Rattle.adg_base.specs.declared.answer.Reply.TheVariants as reply
 use Rattle.adg_base.specs.declared.definition.Definition.{Definition}
 use Rattle.adg_model.specs.Database.{Table, rows_at, table_at}
 use Rattle.adg_model.specs.Defined.{table_of, IsDefinition, AreDefined}
-use Rattle.adg_model.specs.Command.{Spells, IsBadQuery}
+use Rattle.adg_model.specs.Command.{IsBadQuery}
 use Rattle.adg_model.specs.Query.{has_columns, has_types, padded, select_lines, object_rows, table_rows}
 use Rattle.row_blocks.specs.Law.{IsLog}
 use Rattle.row_blocks.specs.Shards.{Shards, StandAt}
-use Rattle.scan_eval.specs.declared.admission.QueryRefused.{QueryRefused}
-use Rattle.scan_eval.specs.declared.admission.QueryRefused.TheVariants.{NoColumn, WrongType, Memory}
+use Rattle.scan_eval.specs.declared.admission.QueryRefused.TheVariants.{NoColumn, WrongType}
 use Rattle.scan_eval.specs.Admission.{admission, Follows}
 use Rattle.frontier_scan.specs.Scan.{rows_in_blocks, rows_in_object, IsFound}
 use Rattle.frontier_scan.specs.Reply.{IsQueryReply, IsReplyAt}

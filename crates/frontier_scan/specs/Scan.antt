@@ -1,5 +1,5 @@
 -- The rows that the shards give of an object, and the answer of a query over them.
-use Rattle.std.specs.Prelude.{◌≡◌, ℕ, ◌+◌, ◌*◌, List, length, map}
+use Rattle.std.specs.Prelude.{◌≡◌, ℕ, ◌*◌, List, length, map}
 use Rattle.std.specs.List.{flat_map, filter_map, range_with_len}
 use Rattle.adg_base.specs.declared.value.Value.{Value}
 use Rattle.adg_base.specs.declared.command.Select.{Select}

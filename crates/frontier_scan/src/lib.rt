@@ -5,6 +5,8 @@ mod blocks;
 mod refused;
 mod reply;
 mod scan;
+#[cfg(test)]
+mod tests;
 mod wide_row;
 
 pub use refused::NoReply;

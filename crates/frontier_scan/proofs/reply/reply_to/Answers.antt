@@ -1,6 +1,3 @@
-use Rattle.std.proofs.Common.{Err, ap, ◌∙◌}
-use Rattle.query_text.specs.declared.refused.TextFault.{TextFault}
-use Rattle.adg_base.specs.declared.command.Command.{Command}
 use Rattle.frontier_scan.proofs.QueryReplies.{bad_query}
 use Rattle.frontier_scan.proofs.reply.reply_to.Goals as goal
 
