@@ -12,7 +12,6 @@ use Rattle.adg_model.specs.declared.delivery.RawDelivery.{RawDelivery}
 use Rattle.adg_model.specs.declared.delivery.CheckedDelivery.{CheckedDelivery}
 use Rattle.adg_model.specs.Feed.{IsIn, delivery_of}
 use Rattle.adg_model.specs.Log.{frontier, merged_log}
-use Rattle.adg_model.specs.Sound.{IsSound}
 use Rattle.adg_model.specs.Reply.{lines_bytes}
 use Rattle.adg_model.specs.Transcript.{all_asked}
 use Rattle.feed_run.specs.declared.standby.Unanswered.{Unanswered}
@@ -20,7 +19,7 @@ use Rattle.feed_run.specs.declared.standby.Unanswered.TheVariants as unanswered
 use Rattle.feed_run.specs.Standby.{IsNext, Responds, deliveries_of}
 use Rattle.feed_run.proofs.NextLaws.{next-count, next-few, next-sessions, next-threads, next-texts}
 use Rattle.log_merger.specs.Merger.{highest_number}
-use Rattle.redo_intake.specs.Intake.{Taking, HasTaken, Checks, bytes_of}
+use Rattle.redo_intake.specs.Intake.{Taking, Checks, bytes_of}
 use Rattle.redo_intake.proofs.RoomLaws.{take-room, take-threads}
 use Rattle.row_blocks.specs.Law.{IsLog}
 use Rattle.row_blocks.specs.declared.shard.Shard.{Shard}
@@ -42,7 +41,7 @@ pub have-come : (t : Taking) (shards : List Shard) (threads : ℕ) (ds : List Ra
 have-come t shards threads ds h = record { is_log = h.is_log; stands = h.taken.known; stand = h.stand }
 
 module _ (old : Taking) (was : List Shard) (threads : ℕ) (ds : List RawDelivery) (d : RawDelivery) (before : HasApplied old was threads ds) (new : Taking) (checked : CheckedDelivery)
-  (checks : Checks before.taken new d checked) where
+    (checks : Checks before.taken new d checked) where
   log-now : IsLog (merged_log before.taken.records ++ checked.entries) (frontier checks.taken.records)
   log-now = log_continued (merged_log before.taken.records) checked.entries (frontier before.taken.records) (frontier checks.taken.records) before.is_log checks.continues
 

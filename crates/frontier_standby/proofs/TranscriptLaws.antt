@@ -17,8 +17,8 @@ use Rattle.adg_model.specs.Command.{command_bytes}
 use Rattle.adg_model.specs.Log.{merged_log, frontier, ReceivedFrom}
 use Rattle.adg_model.specs.Reply.{IsReply, lines_bytes}
 use Rattle.adg_model.specs.Transcript.{Asked, asked_from, all_asked, texts_of, is_abort, is_aborted, IsLegal, LegalFrom, printed}
-use Rattle.frontier_scan.specs.Reply.{AsksUnbuilt, IsReplyAt}
-use Rattle.frontier_standby.specs.Answering.{IsLineAt, AreLinesAt}
+use Rattle.frontier_scan.specs.Reply.{AsksUnbuilt}
+use Rattle.frontier_standby.specs.Answering.{AreLinesAt}
 use Rattle.frontier_standby.specs.Ran.{IsAtEnd, AreAtEnd, IsBuilt}
 use Rattle.frontier_standby.specs.Standing.{Transcribed, end_after}
 use Rattle.frontier_standby.proofs.LegalLaws.{IsPlainLine, legal}
@@ -142,8 +142,8 @@ ends-at log f (a ∷ qs) (l ∷ ls) h = (record { at_end = h.0.reply.at_frontier
 
 -- The lines of one delivery more, at a frontier that is not below the one before.
 module _ (threads sessions : ℕ) (ds : List RawDelivery) (d : RawDelivery) (written : List ℕ) (floor : ℕ) (t : Transcribed threads sessions ds written floor)
-  (records : List (List RedoRecord)) (ls : List Line) (own : AllByRecursion (λ (c : CommandText). IsIn sessions c.session) d.commands)
-  (answered : AreLinesAt (merged_log records) (frontier records) (all_asked sessions d.commands) ls) where
+    (records : List (List RedoRecord)) (ls : List Line) (own : AllByRecursion (λ (c : CommandText). IsIn sessions c.session) d.commands)
+    (answered : AreLinesAt (merged_log records) (frontier records) (all_asked sessions d.commands) ls) where
   one-legal : floor ≤ frontier records → IsLegal sessions (merged_log records) (end_after 0 t.lines) (frontier records) d.commands (record { list = ls; end = frontier records })
   one-legal up =
       legal sessions (end_after 0 t.lines) (frontier records) (merged_log records) d.commands ls (omega (arith, t.last, up))

@@ -17,13 +17,7 @@ Q\0\0\0\x15\x02SELECT COUNT FROM t1Q\0\0\0\x05\x01SYNC\
 E\0\0\0\0X\0\0\0\0";
 
 /// A name, the bytes of the feed that are others, the status, how many bytes are taken, and the lines.
-type Case = (
-    &'static str,
-    &'static [(usize, u8)],
-    u8,
-    u64,
-    &'static str,
-);
+type Case = (&'static str, &'static [(usize, u8)], u8, u64, &'static str);
 
 const CASES: [Case; 5] = [
     (

@@ -373,7 +373,13 @@ fn refuses_one_more_than_the_most(rt: HostRuntime) -> Result<(), Fail> {
             "",
             (2, 6_165, "feed refused: TooManyCommands at byte 6159\n"),
         ),
-        ("a population", b"", 1, "POPULATE t1", (7, 37, "not built yet\n")),
+        (
+            "a population",
+            b"",
+            1,
+            "POPULATE t1",
+            (7, 37, "not built yet\n"),
+        ),
         ("an abort", b"", 1, "ABORT", (7, 31, "not built yet\n")),
     ];
     for (name, redo, commands, text, wanted) in rows {
@@ -778,10 +784,12 @@ fn refuses_redo_that_fails_a_check(rt: HostRuntime) -> Result<(), Fail> {
 }
 
 /// Redo that makes `t1` of a number and a text, with five rows.
-const ROWS: &[u8] = b"\0\x16\0\0\0\0\0\0\0\x0a\x01\x07\0\x01\0\x01\x01\x02\x01\x02\0\x16\0\x9d\0\0\0\0\0\0\0\x0b\x07\x01\0\0\0\0\0\0\0\x07\x02\0\0\0\0\0\0\0\x07\0\x01\0\0\0\x02\x01\0\0\0\0\0\0\0\x01\x02\x01a\x02\0\0\0\0\0\0\0\x07\0\x01\0\0\x01\x02\x01\0\0\0\0\0\0\0\x02\x02\x01b\x02\0\0\0\0\0\0\0\x07\0\x01\0\0\x02\x02\x01\0\0\0\0\0\0\0\x05\x02\x01a\x02\0\0\0\0\0\0\0\x07\0\x01\0\0\x03\x02\0\x02\x01b\x02\0\0\0\0\0\0\0\x07\0\x01\0\0\x04\x02\x01\0\0\0\0\0\0\0\x07\0\x05\0\0\0\0\0\0\0\x07\x01\0\x9d";
+const ROWS: &[u8] =
+    b"\0\x16\0\0\0\0\0\0\0\x0a\x01\x07\0\x01\0\x01\x01\x02\x01\x02\0\x16\0\x9d\0\0\0\0\0\0\0\x0b\x07\x01\0\0\0\0\0\0\0\x07\x02\0\0\0\0\0\0\0\x07\0\x01\0\0\0\x02\x01\0\0\0\0\0\0\0\x01\x02\x01a\x02\0\0\0\0\0\0\0\x07\0\x01\0\0\x01\x02\x01\0\0\0\0\0\0\0\x02\x02\x01b\x02\0\0\0\0\0\0\0\x07\0\x01\0\0\x02\x02\x01\0\0\0\0\0\0\0\x05\x02\x01a\x02\0\0\0\0\0\0\0\x07\0\x01\0\0\x03\x02\0\x02\x01b\x02\0\0\0\0\0\0\0\x07\0\x01\0\0\x04\x02\x01\0\0\0\0\0\0\0\x07\0\x05\0\0\0\0\0\0\0\x07\x01\0\x9d";
 
 /// Redo with each sort of vector: `t1` has one row and one column more, and `t2` is dropped.
-const EACH_SORT: &[u8] = b"\0\x1d\0\0\0\0\0\0\0\x0a\x02\x07\0\x01\0\x01\x01\x01\x01\x07\0\x02\0\x01\0\x01\x01\0\x1d\0\x84\0\0\0\0\0\0\0\x0b\x07\x01\0\0\0\0\0\0\0\x07\x02\0\0\0\0\0\0\0\x07\0\x01\0\0\0\x01\x01\0\0\0\0\0\0\0\x01\x02\0\0\0\0\0\0\0\x07\0\x01\0\0\x01\x01\x01\0\0\0\0\0\0\0\x02\x04\0\0\0\0\0\0\0\x07\0\x01\0\0\x01\x02\0\0\0\0\0\0\0\x07\0\x01\0\0\x02\x01\x01\0\0\0\0\0\0\0\x03\x03\0\0\0\0\0\0\0\x07\0\x01\0\0\x02\x05\0\0\0\0\0\0\0\x07\x01\0\x84\0A\0\0\0\0\0\0\0\x0c\x06\x01\0\0\0\0\0\0\0\x08\x02\0\0\0\0\0\0\0\x08\0\x01\0\0\0\x01\x01\0\0\0\0\0\0\0\x09\x06\0\0\0\0\0\0\0\x08\x09\0\x01\x02\x0a\0\x01\x08\0\x02\0A\0\x0e\0\0\0\0\0\0\0\x0d\x01\x0b\0\x0e";
+const EACH_SORT: &[u8] =
+    b"\0\x1d\0\0\0\0\0\0\0\x0a\x02\x07\0\x01\0\x01\x01\x01\x01\x07\0\x02\0\x01\0\x01\x01\0\x1d\0\x84\0\0\0\0\0\0\0\x0b\x07\x01\0\0\0\0\0\0\0\x07\x02\0\0\0\0\0\0\0\x07\0\x01\0\0\0\x01\x01\0\0\0\0\0\0\0\x01\x02\0\0\0\0\0\0\0\x07\0\x01\0\0\x01\x01\x01\0\0\0\0\0\0\0\x02\x04\0\0\0\0\0\0\0\x07\0\x01\0\0\x01\x02\0\0\0\0\0\0\0\x07\0\x01\0\0\x02\x01\x01\0\0\0\0\0\0\0\x03\x03\0\0\0\0\0\0\0\x07\0\x01\0\0\x02\x05\0\0\0\0\0\0\0\x07\x01\0\x84\0A\0\0\0\0\0\0\0\x0c\x06\x01\0\0\0\0\0\0\0\x08\x02\0\0\0\0\0\0\0\x08\0\x01\0\0\0\x01\x01\0\0\0\0\0\0\0\x09\x06\0\0\0\0\0\0\0\x08\x09\0\x01\x02\x0a\0\x01\x08\0\x02\0A\0\x0e\0\0\0\0\0\0\0\x0d\x01\x0b\0\x0e";
 
 /// A name, redo of thread 1, commands of session 1, the status, and the lines.
 type Run = (
@@ -905,13 +913,7 @@ Q\0\0\0\x15\x02SELECT COUNT FROM t1Q\0\0\0\x05\x01SYNC\
 E\0\0\0\0X\0\0\0\0";
 
 /// A name, the bytes that are others, and how the run ends.
-type TwoDamage = (
-    &'static str,
-    &'static [(usize, u8)],
-    u8,
-    u64,
-    &'static str,
-);
+type TwoDamage = (&'static str, &'static [(usize, u8)], u8, u64, &'static str);
 
 const TWO_ANSWERS: &str = "d1 end scn=10\nd2 s1 c1 scn=12 synced\n\
 d2 s2 c1 scn=12 rows=1 col=0 row=2\n= 2\nd2 end scn=12\n";
@@ -1050,10 +1052,7 @@ fn runs_eight_threads_and_sessions(rt: HostRuntime) -> Result<(), Fail> {
         let text = format!(in rt.alloc(); "SELECT COUNT FROM t{session}")?;
         push_command(rt.alloc(), &mut feed, session, text.as_str())?;
         let session = 1 + place;
-        write!(
-            written,
-            "d1 s{session} c1 scn=10 rows=1 col=0 row=0\n= 0\n"
-        )?;
+        write!(written, "d1 s{session} c1 scn=10 rows=1 col=0 row=0\n= 0\n")?;
     }
     written.push_str("d1 end scn=10\n")?;
     push_ends(&mut feed)?;

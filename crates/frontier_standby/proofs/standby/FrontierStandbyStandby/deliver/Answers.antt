@@ -1,4 +1,4 @@
-use Rattle.std.proofs.Common.{◌+◌, ap, refl, arith, ◌∙◌, ℕ}
+use Rattle.std.proofs.Common.{◌+◌, ap, arith, ℕ}
 use Rattle.std.proofs.lemmas.Result.{err_from_is_err_and}
 use Rattle.frontier_standby.proofs.StandbyLaws.{may-answer, answered-more, unanswered-so}
 use Rattle.frontier_standby.proofs.standby.FrontierStandbyStandby.deliver.Goals as goal
