@@ -1,9 +1,5 @@
 -- Entries that follow a log, applied one after another.
-<<<<<<< ours
-use Rattle.std.proofs.Common.{◌≡◌, ℕ, ◌+◌, ◌<◌, ◌^◌, List, [], ◌∷◌, ◌++◌, length, take, drop, get_or, append_assoc, append-nil, length-append, sym, ap, subst, ◌∙◌, arith}
-=======
 use Rattle.std.proofs.Common.{◌≡◌, ℕ, ◌+◌, ◌<◌, ◌^◌, List, [], ◌∷◌, ◌++◌, length, take, drop, get_or, append_assoc, length-append, sym, ap, subst, ◌∙◌, arith}
->>>>>>> theirs
 use Rattle.std.proofs.lemmas.List.{take_more, take-append-drop}
 use Rattle.adg_base.specs.declared.log.LogEntry.{LogEntry}
 use Rattle.row_blocks.specs.Law.{IsLog}

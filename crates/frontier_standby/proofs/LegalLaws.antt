@@ -1,9 +1,5 @@
 -- Lines that are all at the frontier, none of them Aborted, are legal.
-<<<<<<< ours
-use Rattle.std.proofs.Common.{◌≡◌, ℕ, ◌≤◌, Bool, true, false, List, [], ◌∷◌, Option, Some, None, eqb, true≢false, ◌∙◌, sym, refl, arith, inr}
-=======
 use Rattle.std.proofs.Common.{◌≡◌, ℕ, ◌≤◌, Bool, true, false, List, [], ◌∷◌, Some, eqb, true≢false, ◌∙◌, sym, refl, arith, inr}
->>>>>>> theirs
 use Rattle.std.specs.List.{filter_map, list_any, AllByRecursion, AllZip}
 use Rattle.adg_base.specs.declared.command.CommandText.{CommandText}
 use Rattle.adg_base.specs.declared.log.LogEntry.{LogEntry}

@@ -2,11 +2,7 @@
 use Rattle.std.proofs.Common.{◌≡◌, ◌≤◌, ℕ, List, [], length, sym, subst, refl, arith}
 use Rattle.adg_base.specs.declared.log.LogEntry.{LogEntry}
 use Rattle.adg_model.specs.declared.delivery.RawDelivery.{RawDelivery}
-<<<<<<< ours
-use Rattle.adg_model.specs.Log.{frontier, merged_log}
-=======
 use Rattle.adg_model.specs.Log.{frontier}
->>>>>>> theirs
 use Rattle.adg_model.specs.Sound.{IsSound}
 use Rattle.redo_intake.specs.Intake.{Taking, HasTaken}
 use Rattle.redo_intake.proofs.NothingLaws.{nothing, nothing-logged}

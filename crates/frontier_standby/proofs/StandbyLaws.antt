@@ -12,10 +12,6 @@ use Rattle.adg_model.specs.declared.delivery.RawDelivery.{RawDelivery}
 use Rattle.adg_model.specs.declared.delivery.CheckedDelivery.{CheckedDelivery}
 use Rattle.adg_model.specs.Feed.{IsIn, delivery_of}
 use Rattle.adg_model.specs.Log.{frontier, merged_log}
-<<<<<<< ours
-use Rattle.adg_model.specs.Sound.{IsSound}
-=======
->>>>>>> theirs
 use Rattle.adg_model.specs.Reply.{lines_bytes}
 use Rattle.adg_model.specs.Transcript.{all_asked}
 use Rattle.feed_run.specs.declared.standby.Unanswered.{Unanswered}
@@ -23,11 +19,7 @@ use Rattle.feed_run.specs.declared.standby.Unanswered.TheVariants as unanswered
 use Rattle.feed_run.specs.Standby.{IsNext, Responds, deliveries_of}
 use Rattle.feed_run.proofs.NextLaws.{next_count, next_few, next_sessions, next_threads, next-texts}
 use Rattle.log_merger.specs.Merger.{highest_number}
-<<<<<<< ours
-use Rattle.redo_intake.specs.Intake.{Taking, HasTaken, Checks, bytes_of}
-=======
 use Rattle.redo_intake.specs.Intake.{Taking, Checks, bytes_of}
->>>>>>> theirs
 use Rattle.redo_intake.proofs.RoomLaws.{take_room, take_threads}
 use Rattle.row_blocks.specs.Law.{IsLog}
 use Rattle.row_blocks.specs.declared.shard.Shard.{Shard}

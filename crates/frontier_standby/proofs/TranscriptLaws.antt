@@ -17,13 +17,8 @@ use Rattle.adg_model.specs.Command.{command_bytes}
 use Rattle.adg_model.specs.Log.{merged_log, frontier, ReceivedFrom}
 use Rattle.adg_model.specs.Reply.{IsReply, lines_bytes}
 use Rattle.adg_model.specs.Transcript.{Asked, asked_from, all_asked, texts_of, is_abort, is_aborted, IsLegal, LegalFrom, printed}
-<<<<<<< ours
-use Rattle.frontier_scan.specs.Reply.{AsksUnbuilt, IsReplyAt}
-use Rattle.frontier_standby.specs.Answering.{IsLineAt, AreLinesAt}
-=======
 use Rattle.frontier_scan.specs.Reply.{AsksUnbuilt}
 use Rattle.frontier_standby.specs.Answering.{AreLinesAt}
->>>>>>> theirs
 use Rattle.frontier_standby.specs.Ran.{IsAtEnd, AreAtEnd, IsBuilt}
 use Rattle.frontier_standby.specs.Standing.{Transcribed, end_after}
 use Rattle.frontier_standby.proofs.LegalLaws.{IsPlainLine, legal}

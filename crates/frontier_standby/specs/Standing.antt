@@ -14,11 +14,7 @@ use Rattle.row_blocks.specs.Law.{IsLog}
 use Rattle.row_blocks.specs.declared.shard.Shard.{Shard}
 use Rattle.row_blocks.specs.Shards.{Shards, StandAt, shards_in}
 use Rattle.frontier_standby.specs.declared.standby.FrontierStandby.{FrontierStandby}
-<<<<<<< ours
-use Rattle.frontier_standby.specs.Answering.{AreLinesAt, HasUnbuilt}
-=======
 use Rattle.frontier_standby.specs.Answering.{AreLinesAt}
->>>>>>> theirs
 use Rattle.frontier_standby.specs.Ran.{AreAtEnd, IsBuilt, IsUnbuilt}
 
 -- where shards had passed the first entries of a log and these are the others, they have passed the whole log

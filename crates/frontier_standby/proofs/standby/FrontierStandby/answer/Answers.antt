@@ -1,8 +1,4 @@
-<<<<<<< ours
-use Rattle.std.proofs.Common.{◌≡◌, ◌<◌, ◌^◌, ◌++◌, ◌∷◌, [], ℕ, List, Err, length, ap, sym, subst, arith, ◌∙◌}
-=======
 use Rattle.std.proofs.Common.{◌≡◌, ◌<◌, ◌^◌, ◌++◌, ◌∷◌, [], List, Err, length, ap, sym, subst, arith, ◌∙◌}
->>>>>>> theirs
 use Rattle.std.specs.List.{AllByRecursion}
 use Rattle.adg_base.specs.declared.command.CommandText.{CommandText}
 use Rattle.adg_base.specs.declared.log.LogEntry.{LogEntry}

@@ -1,8 +1,4 @@
-<<<<<<< ours
-use Rattle.std.proofs.Common.{◌+◌, ap, refl, arith, ◌∙◌, ℕ}
-=======
 use Rattle.std.proofs.Common.{◌+◌, ap, arith, ℕ}
->>>>>>> theirs
 use Rattle.std.proofs.lemmas.Result.{err_from_is_err_and}
 use Rattle.frontier_standby.proofs.StandbyLaws.{may_answer, answered_more, unanswered_so}
 use Rattle.frontier_standby.proofs.standby.FrontierStandbyStandby.deliver.Goals as goal
