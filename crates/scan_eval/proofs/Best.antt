@@ -1,5 +1,5 @@
 -- The least and the greatest value of a list and of another behind it.
-use Rattle.std.proofs.Common.{◌≡◌, Bool, true, false, not, ◌&&◌, ◌||◌, cond, if◌then◌else◌, List, [], ◌∷◌, ◌++◌, refl, sym, ap, ap₂, ◌∙◌, subst, true≢false}
+use Rattle.std.proofs.Common.{◌≡◌, Bool, true, false, not, ◌&&◌, ◌||◌, if◌then◌else◌, List, [], ◌∷◌, ◌++◌, refl, sym, ap, ap₂, ◌∙◌, true≢false}
 use Rattle.std.specs.Cmp.{IsStrictWeakOrder}
 use Rattle.std.specs.List.{AllByRecursion}
 use Rattle.std.specs.Ordering.{is_lt, is_gt, ordering_reverse}
@@ -11,7 +11,7 @@ use Rattle.adg_base.specs.declared.value.Value.{Value}
 use Rattle.adg_base.specs.declared.value.Value.TheVariants.{Null, Int, Text}
 use Rattle.adg_model.specs.Query.{chosen}
 use Rattle.adg_base.specs.Values.{value_cmp, is_null}
-use Rattle.scan_eval.specs.Tally.{best, is_lower, lesser, greater}
+use Rattle.scan_eval.specs.Tally.{best, lesser, greater}
 use Rattle.adg_base.proofs.ValueOrder.{value_cmp_total}
 
 -- one step of a choice

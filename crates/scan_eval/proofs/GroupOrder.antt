@@ -1,7 +1,7 @@
 -- The lines of groups in the order of their keys.
-use Rattle.std.proofs.Common.{◌≡◌, ℕ, zero, suc, ◌+◌, ◌-◌, ◌*◌, ◌<◌, ◌≤◌, Bool, true, false, ◌||◌, cond, List, [], ◌∷◌, ◌++◌, length, map, take, drop, get_or, refl, sym, ap, ap₂, ◌∙◌, subst, arith, true≢false, zero-add}
-use Rattle.std.specs.List.{All, AllByRecursion, flat_map, list_any, IsDistinct}
-use Rattle.std.specs.List.Sorted.{IsPermutation, IsSortedByKey, IsStrictlySortedBy}
+use Rattle.std.proofs.Common.{◌≡◌, ℕ, zero, suc, ◌+◌, ◌-◌, ◌*◌, ◌<◌, ◌≤◌, Bool, true, false, ◌||◌, List, [], ◌∷◌, length, map, take, drop, get_or, refl, sym, ap, ap₂, ◌∙◌, subst, arith, true≢false, zero-add}
+use Rattle.std.specs.List.{All, AllByRecursion, list_any, IsDistinct}
+use Rattle.std.specs.List.Sorted.{IsPermutation, IsStrictlySortedBy}
 use Rattle.std.specs.Ordering.{is_eq, is_lt, ordering_reverse}
 use Rattle.std.specs.declared.cmp.Ordering.{Ordering}
 use Rattle.std.specs.declared.cmp.Ordering.TheVariants.{Less, Equal, Greater}
@@ -20,7 +20,7 @@ use Rattle.scan_eval.specs.declared.group.KeyPlace.{KeyPlace}
 use Rattle.scan_eval.specs.declared.tally.Tally.{Tally}
 use Rattle.scan_eval.specs.Tally.{tally_cell}
 use Rattle.scan_eval.specs.Groups.{AreGroups, AreInOrder, places_from}
-use Rattle.adg_base.proofs.ValueOrder.{value_cmp_total, same_equiv, same_itself, same_keys, tied, below_all}
+use Rattle.adg_base.proofs.ValueOrder.{value_cmp_total, same_equiv, same_keys, tied, below_all}
 use Rattle.scan_eval.proofs.TallyLaws.{cells_of_rows}
 use Rattle.scan_eval.proofs.GroupLaws.{Row, has_key, line, around_index, has_part}
 

@@ -1,9 +1,7 @@
 -- What a tally holds of rows and of more rows, and what it prints.
-use Rattle.std.proofs.Common.{◌≡◌, ℕ, ◌+◌, ◌<◌, ◌≤◌, ◌^◌, ℤ, pos, ◌+ℤ◌, Bool, true, false, not, ◌&&◌, ◌||◌, ◌==◌, cond, if◌then◌else◌, List, [], ◌∷◌, ◌++◌, length, map, filter, refl, sym, ap, ap₂, ◌∙◌, subst, arith, true≢false}
+use Rattle.std.proofs.Common.{◌≡◌, ℕ, ◌+◌, ◌<◌, ◌≤◌, ◌^◌, ℤ, ◌+ℤ◌, Bool, not, cond, if◌then◌else◌, List, [], ◌∷◌, ◌++◌, length, map, filter, refl, sym, ap, ap₂, ◌∙◌, arith}
 use Rattle.std.specs.List.{zip, All, AllByRecursion, AllZip}
-use Rattle.std.specs.Ordering.{is_lt, is_gt, is_eq, ordering_reverse}
-use Rattle.std.specs.declared.cmp.Ordering.{Ordering}
-use Rattle.std.specs.declared.cmp.Ordering.TheVariants.{Less, Equal, Greater}
+use Rattle.std.specs.Ordering.{is_lt, is_gt}
 use Rattle.std.proofs.Math.Dec.{eqb-suc-zero}
 use Rattle.std.proofs.lemmas.Int.{ints}
 use Rattle.std.proofs.lemmas.List.{map-append, length-append}
@@ -14,12 +12,12 @@ use Rattle.adg_base.specs.declared.answer.Cell.{Cell}
 use Rattle.adg_base.specs.declared.answer.Cell.TheVariants as cell
 use Rattle.adg_base.specs.declared.command.Aggregate.{Aggregate}
 use Rattle.adg_base.specs.declared.command.Aggregate.TheVariants as aggregate
-use Rattle.adg_model.specs.Query.{value_in, values_in, number_of, total, chosen, chosen_cell, sum_cell, aggregate_cell, aggregate_cells}
-use Rattle.adg_base.specs.Values.{value_cmp, is_null, cell_of}
+use Rattle.adg_model.specs.Query.{value_in, values_in, total, chosen_cell, sum_cell, aggregate_cell, aggregate_cells}
+use Rattle.adg_base.specs.Values.{is_null, cell_of}
 use Rattle.scan_eval.specs.Summed.{Summed, summed, joined, with_term}
 use Rattle.scan_eval.specs.declared.tally.Tally.{Tally}
 use Rattle.scan_eval.specs.declared.tally.Tally.TheVariants.{Count, Sum, Least, Greatest}
-use Rattle.scan_eval.specs.Tally.{best, tally_of, tallies_of, is_lower, lesser, greater, with_row, with_tally, size_of, tally_cell}
+use Rattle.scan_eval.specs.Tally.{best, tally_of, tallies_of, lesser, greater, with_row, with_tally, size_of, tally_cell}
 use Rattle.scan_eval.proofs.Best.{AreThere, least_append, greatest_append}
 
 is_value : Value → Bool

@@ -1,5 +1,5 @@
 -- What is kept of the rows that met the conditions of a query.
-use Rattle.std.specs.Prelude.{◌≡◌, List, map, Option, Some, None}
+use Rattle.std.specs.Prelude.{◌≡◌, List, map, Some, None}
 use Rattle.adg_base.specs.declared.value.Value.{Value}
 use Rattle.adg_base.specs.declared.command.Select.{Select}
 use Rattle.adg_base.specs.declared.command.What.TheVariants.{All, Aggregates}

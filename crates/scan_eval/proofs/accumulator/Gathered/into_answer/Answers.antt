@@ -1,8 +1,7 @@
-use Rattle.std.proofs.Common.{◌≡◌, List, [], ◌∷◌, ◌++◌, map, sym, ap, ap₂, ◌∙◌, subst}
+use Rattle.std.proofs.Common.{List, [], ◌∷◌, ◌++◌, map, sym, ap, ap₂, ◌∙◌, subst}
 use Rattle.adg_base.specs.declared.answer.Cell.{Cell}
 use Rattle.adg_base.specs.declared.command.What.{What}
 use Rattle.adg_model.specs.Query.{filtered, aggregates_of, result_lines}
-use Rattle.scan_eval.specs.declared.tally.Tally.{Tally}
 use Rattle.scan_eval.specs.Gathered.{HasTallies, Gathers}
 use Rattle.scan_eval.specs.Tally.{tally_cell}
 use Rattle.scan_eval.proofs.TallyLaws.{cells_of_rows}

@@ -1,4 +1,4 @@
-use Rattle.std.proofs.Common.{◌≡◌, ℕ, ◌+◌, ◌-◌, ◌*◌, ◌<◌, ◌≤◌, ◌^◌, List, [], ◌∷◌, ◌++◌, length, map, take, drop, refl, sym, ap, ap₂, ◌∙◌, subst, arith}
+use Rattle.std.proofs.Common.{◌≡◌, ℕ, ◌+◌, ◌-◌, ◌*◌, ◌<◌, ◌^◌, List, [], ◌∷◌, ◌++◌, length, map, take, drop, sym, ap, ap₂, ◌∙◌, subst, arith}
 use Rattle.std.proofs.lemmas.List.{with_items_is}
 use Rattle.std.specs.List.{All, flat_map, list_any}
 use Rattle.adg_base.specs.declared.value.Value.{Value}
@@ -6,7 +6,7 @@ use Rattle.adg_model.specs.Query.{value_in, rows_with}
 use Rattle.scan_eval.specs.declared.seen.Seen.{Seen}
 use Rattle.scan_eval.specs.declared.tally.Tally.{Tally}
 use Rattle.adg_base.specs.Values.{shown, same}
-use Rattle.scan_eval.specs.Tally.{size_of, with_row, tallies_of}
+use Rattle.scan_eval.specs.Tally.{size_of, with_row}
 use Rattle.scan_eval.proofs.GroupLaws.{Row, has_key, line, around, block_of_row, has_part, fewer_with, grown, covered_more}
 use Rattle.scan_eval.proofs.TallyLaws.{room_for_one, tallies_one_more}
 use Rattle.scan_eval.proofs.group.Groups.add.Goals as goal

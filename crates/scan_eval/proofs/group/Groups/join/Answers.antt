@@ -1,12 +1,11 @@
-use Rattle.std.proofs.Common.{◌≡◌, ℕ, ◌+◌, ◌<◌, ◌≤◌, ◌^◌, List, [], ◌∷◌, ◌++◌, length, take, get_or, refl, sym, ap, ap₂, ◌∙◌, arith}
-use Rattle.std.specs.List.{flat_map, list_any}
+use Rattle.std.proofs.Common.{◌≡◌, ℕ, ◌<◌, ◌≤◌, List, ◌++◌, length, get_or, sym, ap, ap₂, ◌∙◌, arith}
+use Rattle.std.specs.List.{list_any}
 use Rattle.std.proofs.lemmas.List.{take_all}
 use Rattle.adg_base.specs.declared.value.Value.{Value}
 use Rattle.adg_base.specs.declared.value.Value.TheVariants.{Null}
 use Rattle.adg_model.specs.Query.{rows_with}
-use Rattle.scan_eval.specs.declared.seen.Seen.{Seen}
 use Rattle.adg_base.specs.Values.{same}
-use Rattle.scan_eval.proofs.GroupLaws.{Row, has_key, line, fewer_with, key_rows, key_rows_before, key_by_key, same_any, same_lines}
+use Rattle.scan_eval.proofs.GroupLaws.{Row, has_key, fewer_with, key_rows, key_rows_before, key_by_key, same_any, same_lines}
 use Rattle.scan_eval.proofs.group.Groups.join.Goals as goal
 
 pub join_key-requires-clause-room : goal.join_key-requires-clause-room

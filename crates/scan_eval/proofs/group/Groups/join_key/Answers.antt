@@ -1,9 +1,9 @@
-use Rattle.std.proofs.Common.{◌≡◌, ℕ, ◌+◌, ◌-◌, ◌*◌, ◌<◌, ◌≤◌, ◌^◌, true, List, [], ◌∷◌, ◌++◌, length, map, take, drop, get_or, refl, sym, ap, ap₂, ◌∙◌, subst, arith}
-use Rattle.std.proofs.lemmas.List.{with_items_is, get_or_default, take-append-drop}
+use Rattle.std.proofs.Common.{◌≡◌, ℕ, ◌+◌, ◌-◌, ◌*◌, ◌<◌, ◌^◌, true, List, ◌++◌, length, map, take, drop, get_or, sym, ap, ap₂, ◌∙◌, subst, arith}
+use Rattle.std.proofs.lemmas.List.{with_items_is, get_or_default}
 use Rattle.std.specs.List.{AllZip, flat_map, list_any, zip}
 use Rattle.adg_base.specs.declared.value.Value.{Value}
 use Rattle.adg_base.specs.declared.value.Value.TheVariants.{Null}
-use Rattle.adg_model.specs.Query.{value_in, rows_with}
+use Rattle.adg_model.specs.Query.{rows_with}
 use Rattle.scan_eval.specs.declared.seen.Seen.{Seen}
 use Rattle.scan_eval.specs.declared.tally.Tally.{Tally}
 use Rattle.adg_base.specs.Values.{shown, same}

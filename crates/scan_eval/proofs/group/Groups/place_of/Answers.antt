@@ -1,7 +1,6 @@
-use Rattle.std.proofs.Common.{◌≡◌, ℕ, Bool, true, false, if◌then◌else◌, List, [], ◌∷◌, ◌++◌, length, get_or, Option, Some, None, Result, Ok, Err, IfOk, OnOk, refl, sym, ap, ◌∙◌, ⊎_elim}
+use Rattle.std.proofs.Common.{◌≡◌, ℕ, Bool, true, false, if◌then◌else◌, List, [], ◌∷◌, ◌++◌, length, Option, Some, None, Result, Ok, Err, IfOk, OnOk, sym, ap, ◌∙◌, ⊎_elim}
 use Rattle.std.specs.List.{position, list_any}
 use Rattle.std.proofs.lemmas.Bool.{cases_Bool}
-use Rattle.std.proofs.lemmas.List.Quantifiers.{position-Some}
 use Rattle.adg_base.specs.declared.memory.Memory.{Memory}
 use Rattle.adg_base.specs.declared.value.Value.{Value}
 use Rattle.adg_base.specs.Values.{shown, same}

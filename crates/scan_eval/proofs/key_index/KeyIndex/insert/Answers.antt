@@ -1,5 +1,4 @@
-use Rattle.std.proofs.Common.{◌≡◌, ℕ, Bool, cond, nat_eq, List, Option, Some, refl, sym, ap, ◌∙◌, subst}
-use Rattle.std.specs.Cmp.Lexicographic.{pointwise}
+use Rattle.std.proofs.Common.{◌≡◌, ℕ, cond, List, Some, refl, sym, ap, ◌∙◌, subst}
 use Rattle.std.specs.HashMap.{UpdatesBy, get}
 use Rattle.std.specs.Ordering.{int_eq}
 use Rattle.adg_base.specs.declared.value.Value.{Value}
