@@ -1,5 +1,5 @@
 -- What a run of the program promises, over its words, its source, its sink and its outcome.
-use Rattle.std.specs.Prelude.{◌≡◌, ◌≢◌, ℕ, List, Option, Some, None}
+use Rattle.std.specs.Prelude.{◌≢◌, ℕ, List, Option, Some, None}
 use Rattle.feed_run.specs.declared.outcome.Outcome.{Outcome}
 use Rattle.feed_run.specs.Ending.{Ending, RunEnds, UsageEnds}
 use Rattle.feed_run.specs.Headline as run
