@@ -1,6 +1,7 @@
 //! The top calls: a feed is read from a source, run, and answered to a sink.
 #![tactic(auto)]
 
+mod kept;
 #[cfg(test)]
 mod tests;
 mod top;

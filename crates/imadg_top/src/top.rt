@@ -2,6 +2,7 @@ ghost use Rattle.std.specs.Prelude.{◌≡◌, map, string_bytes};
 ghost use Rattle.feed_run.specs.View.{source_view, sink_view};
 ghost use Rattle.imadg_top.specs.Headline.{Headline, IsComplete};
 
+use crate::kept::Kept;
 use crate::words::workers;
 use adg_io::outside::{Gate, Sink, Source};
 use feed_run::outcome::Outcome;
@@ -12,7 +13,8 @@ use std::sync::Wait;
 use std::thread::Threads;
 
 /// Answers the feed of a source to a sink on one thread, which is what the plain run of the words
-/// does. The words are those after the program's name.
+/// does. The words are those after the program's name. It is the last thing that a program does: what
+/// the standby holds at the end is not freed.
 pub fn stepped<R: Source, K: Sink>(
     alloc: Global,
     words: &[String],
@@ -23,7 +25,7 @@ pub fn stepped<R: Source, K: Sink>(
     ensures complete { IsComplete (map (λ w. string_bytes w) words.now) (source_view (R.left source.old) (R.faults source.old)) (source_view (R.left source.new) (R.faults source.new)) (sink_view (K.held sink.old) (K.faults sink.old)) (sink_view (K.held sink.new) (K.faults sink.new)) result }
 {
     match workers(words) {
-        Some(workers) => run_feed::<FrontierStandby, R, K>(alloc, workers, source, sink),
+        Some(workers) => run_feed::<Kept<FrontierStandby>, R, K>(alloc, workers, source, sink),
         None => refuse_words(sink),
     }
 }
