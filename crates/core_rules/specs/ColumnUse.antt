@@ -133,14 +133,14 @@ pub record ColumnUse (log : List LogEntry) (frontier floor born : ℕ) (before :
       → NotRedefined log obj floor frontier → units ≡ table.extents
 
 -- every extent that an object had at an SCN has a Ready unit with this snapshot
-pub record IsReadyAt (units : Units) (extent scn : ℕ) (u : ColumnUnit) : Type 0 where
+pub record IsReadyAt (scn : ℕ) (u : ColumnUnit) : Type 0 where
   pub ready : is_some u.columns ≡ true
   pub snapshot : u.snapshot ≡ scn
 
 pub record HasReadyUnits (log : List LogEntry) (units : Units) (obj scn : ℕ) : Type 0 where
   pub table : Table
   pub defined : table_at log scn obj ≡ Some table
-  pub each : (extent : ℕ) → extent < table.extents → (u : ColumnUnit) × (units obj extent ≡ Some u) × IsReadyAt units extent scn u
+  pub each : (extent : ℕ) → extent < table.extents → (u : ColumnUnit) × (units obj extent ≡ Some u) × IsReadyAt scn u
 
 -- no unit of an object stands
 abbrev pub HasNoUnits : Units → ℕ → Type 0

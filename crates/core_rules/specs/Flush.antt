@@ -1,7 +1,7 @@
 -- The events of a flush: BeginFlush, Claim, Collect, Touch, Done and Publish.
 use Rattle.std.specs.Prelude.{◌≡◌, ℕ, ◌+◌, ◌<◌, ◌≤◌, nat_lt, nat_le, not, Bool, true, false, ◌||◌, List, [], ◌∷◌, ◌++◌, length, map, filter, slice_set, Option, Some, None, ◌⊎◌}
-use Rattle.std.specs.List.{AllByRecursion, AllPairs, list_any, flat_map}
-use Rattle.std.specs.List.Sorted.{IsPermutation}
+use Rattle.std.specs.List.{AllByRecursion, list_any, flat_map}
+use Rattle.std.specs.List.Sorted.{IsPermutation, IsNonDecreasingBy}
 use Rattle.adg_base.specs.Address.{Place}
 use Rattle.adg_base.specs.Area.{Held, HoldsPlace, HoldsBegin}
 use Rattle.adg_base.specs.Shard.{shard_of_unit}
@@ -45,7 +45,7 @@ unclaimed items = record { items = items; stage = Unclaimed }
 pub record BeginsFlush (c : CoreState) (through : ℕ) (new : CoreState) : Type 0 where
   pub can : CanBeginFlush c through
   pub nodes : List Node
-  pub order : AllPairs (λ a b. a.pos < b.pos) nodes
+  pub order : IsNonDecreasingBy (λ n. n.pos) nodes
   pub same : IsPermutation (nodes_upto through c.workers) nodes
   pub parts : List (List Item)
   pub chopped : AreChopped (map node_item nodes ++ map ddl_item (filter (λ n. nat_le n.scn through) c.ddl)) parts

@@ -30,20 +30,36 @@ mined_of_all c = mined_from (length c.workers) 0 c.log (map (λ w. w.mined) c.wo
 abbrev pub unit_place : CoreState → (obj extent : ℕ) → ℕ
 unit_place c obj extent = length c.workers + shard_of_unit obj extent
 
+-- of all workers, units, populations and scans
+abbrev pub AllWorkers : CoreState → Type 0
+AllWorkers c = (worker : ℕ) (w : Worker) → At c.workers worker w → WorkerIs c worker w
+
+abbrev pub AllUnits : CoreState → Type 0
+AllUnits c = (obj extent : ℕ) (u : ColumnUnit) → c.units obj extent ≡ Some u → UnitIs c.log c.query c.ticket c.links (unit_place c obj extent) obj extent u
+
+abbrev pub AllPopulations : CoreState → Type 0
+AllPopulations c = (place : ℕ) (p : Population) → At c.sessions place (Populating p) → PopulationIs c.log c.query c.ticket p
+
+abbrev pub AllTied : CoreState → Type 0
+AllTied c = (place : ℕ) (p : Population) → At c.sessions place (Populating p) → HasItsUnits c.units p
+
+abbrev pub AllScans : CoreState → Type 0
+AllScans c = (place : ℕ) (s : Scan) → At c.sessions place (Scanning s) → ScanIs c.log c.query s
+
 pub record Invariant (c : CoreState) : Type 0 where
   pub log : IsLog c.log c.frontier
   pub numbers : NumbersAre c.born c.query (limit c) c.frontier
   pub quiesce : QuiesceIs c.quiesce c.query (holders c.sessions) c.links
   pub shards : ShardsAre c.log c.shards
   pub manned : 0 < length c.workers
-  pub workers : (worker : ℕ) (w : Worker) → At c.workers worker w → WorkerIs c worker w
+  pub workers : AllWorkers c
   pub ddl : DdlIs (limit c) (mined_of_all c) c.ddl
   pub flush : FlushIs c
-  pub units : (obj extent : ℕ) (u : ColumnUnit) → c.units obj extent ≡ Some u → UnitIs c.log c.query c.ticket c.links (unit_place c obj extent) obj extent u
-  pub populations : (place : ℕ) (p : Population) → At c.sessions place (Populating p) → PopulationIs c.log c.query c.ticket p
+  pub units : AllUnits c
+  pub populations : AllPopulations c
   pub tickets : TicketsDiffer c.sessions
-  pub tied : (place : ℕ) (p : Population) → At c.sessions place (Populating p) → HasItsUnits c.units p
-  pub scans : (place : ℕ) (s : Scan) → At c.sessions place (Scanning s) → ScanIs c.log c.query s
+  pub tied : AllTied c
+  pub scans : AllScans c
 
 -- the marks of every unit are precise
 abbrev pub Precise : CoreState → Type 0
