@@ -124,7 +124,7 @@ item_link c v test i h k =
     let part = has-flat_map_back (λ (p : List Item). p) parts i there in
     let at = at-has parts part.0 part.1 in
     let l = at-map_back (λ (x : Link). x.items) c.links at.0 part.0 at.1 in
-    record { number = at.0; link = l.0; found = l.1; has = any-has test l.0.items i (subst (λ items. Has items i) (sym l.2) part.2) k }
+    record { number = at.0; link = l.0; found = l.1; has = any-has test l.0.items i (subst (λ (items : List Item). Has items i) {y = l.0.items} (sym l.2) part.2) k }
 
 pub items_end : ItemsEnd
 items_end c v n l t h k =

@@ -4,3 +4,7 @@ pub mod Keeps
 pub mod Items
 pub mod Crew
 pub mod Applied
+pub mod MinedLists
+pub mod MinedEntry
+pub mod Restarted
+pub mod Joined

@@ -88,16 +88,35 @@ entered_same d (m ∷ ms) = by_test (nat_le m.scn d.scn) (entered_same d ms)
     by_test false ih = IsPermutation-refl (d ∷ m ∷ ms)
 
 -- one entry more that lies above the limit
-kept_one : (limit : ℕ) (e : LogEntry) → limit < e.scn → (d : DdlNode) → d.scn ≡ e.scn → filter (λ (n : DdlNode). nat_lt limit n.scn) (d ∷ []) ≡ d ∷ []
-kept_one limit e l d h = let k : limit < d.scn = omega arith in rw (lt-ltb limit d.scn k) refl
+kept_none : (limit : ℕ) (e : LogEntry) (later : List LogEntry) → ddl_of e ≡ None → kept_ddl limit (e ∷ later) ≡ kept_ddl limit later
+kept_none limit e later h = ap (λ o. filter (λ (n : DdlNode). nat_lt limit n.scn) (cons_option o (ddl_in later))) h
 
-pub mined_ddl_keeps : (limit : ℕ) (before later : List LogEntry) (e : LogEntry) (ddl : List DdlNode) (o : Option DdlNode) → limit < e.scn → ddl_of e ≡ o
-    → ((d : DdlNode) → o ≡ Some d → d.scn ≡ e.scn) → DdlIs limit (before ++ later) ddl → DdlIs limit (before ++ e ∷ later) (entered_if o ddl)
-mined_ddl_keeps limit before later e ddl None l h s r = record {
-  same = subst (λ ns. IsPermutation ns ddl) (sym (kept_ddl-append limit before later ∙ more)) r.same';
+kept_some : (limit : ℕ) (e : LogEntry) (later : List LogEntry) (d : DdlNode) → ddl_of e ≡ Some d → limit < d.scn → kept_ddl limit (e ∷ later) ≡ d ∷ kept_ddl limit later
+kept_some limit e later d h l =
+    ap (λ o. filter (λ (n : DdlNode). nat_lt limit n.scn) (cons_option o (ddl_in later))) h
+    ∙ ap (λ b. cond b (d ∷ kept_ddl limit later) (kept_ddl limit later)) (lt-ltb limit d.scn l)
+
+pub mined_ddl_keeps : (limit : ℕ) (before later : List LogEntry) (e : LogEntry) (ddl : List DdlNode) (o : Option DdlNode) → ddl_of e ≡ o
+    → ((d : DdlNode) → o ≡ Some d → limit < d.scn) → DdlIs limit (before ++ later) ddl → DdlIs limit (before ++ e ∷ later) (entered_if o ddl)
+mined_ddl_keeps limit before later e ddl None h l r = record {
+  same = subst (λ ns. IsPermutation ns ddl) (sym all) r.same;
   order = r.order;
 }
   where
-    more : kept_ddl limit before ++ kept_ddl limit later ≡ kept_ddl limit (before ++ later)
-    more = ?
-mined_ddl_keeps limit before later e ddl (Some d) l h s r = ?
+    all : kept_ddl limit (before ++ e ∷ later) ≡ kept_ddl limit (before ++ later)
+    all = kept_ddl-append limit before (e ∷ later) ∙ ap (λ ns. kept_ddl limit before ++ ns) (kept_none limit e later h) ∙ sym (kept_ddl-append limit before later)
+mined_ddl_keeps limit before later e ddl (Some d) h l r = record {
+  same = subst (λ ns. IsPermutation ns (entered d ddl)) (sym all) moved;
+  order = entered_order d ddl r.order;
+}
+  where
+    all : kept_ddl limit (before ++ e ∷ later) ≡ kept_ddl limit before ++ d ∷ kept_ddl limit later
+    all = kept_ddl-append limit before (e ∷ later) ∙ ap (λ ns. kept_ddl limit before ++ ns) (kept_some limit e later d h (l d refl))
+    old : IsPermutation (kept_ddl limit before ++ kept_ddl limit later) ddl
+    old = subst (λ ns. IsPermutation ns ddl) (kept_ddl-append limit before later) r.same
+    front : IsPermutation (kept_ddl limit before ++ d ∷ kept_ddl limit later) (d ∷ ddl)
+    front = IsPermutation-trans (kept_ddl limit before ++ d ∷ kept_ddl limit later) (d ∷ (kept_ddl limit before ++ kept_ddl limit later)) (d ∷ ddl)
+      (IsPermutation-middle (kept_ddl limit before) d (kept_ddl limit later))
+      (IsPermutation-cons d (kept_ddl limit before ++ kept_ddl limit later) ddl old)
+    moved : IsPermutation (kept_ddl limit before ++ d ∷ kept_ddl limit later) (entered d ddl)
+    moved = IsPermutation-trans (kept_ddl limit before ++ d ∷ kept_ddl limit later) (d ∷ ddl) (entered d ddl) front (entered_same d ddl)
