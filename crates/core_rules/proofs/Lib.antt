@@ -1,3 +1,5 @@
 pub mod Lists
 pub mod Keeps
 pub mod UnitsPassed
+pub mod UnitsTouched
+pub mod UnitsPublished
