@@ -3,3 +3,5 @@ pub mod Keeps
 pub mod UnitsPassed
 pub mod UnitsTouched
 pub mod UnitsPublished
+pub mod PreciseMarks
+pub mod FlushLaw

@@ -22,7 +22,7 @@ done-past place (Claimed actor cursor collected) h = let e : false ≡ true = h 
 done-past place Finished h = refl
 
 -- What was published lies at most at the SCN of the flush, and so does all that a commit ends there.
-commit-cut : (c : CoreState) (t scn low high : ℕ) → CommitsAt c.log t scn → low < scn → scn ≤ high → EndedWithin c.log low high t
+pub commit-cut : (c : CoreState) (t scn low high : ℕ) → CommitsAt c.log t scn → low < scn → scn ≤ high → EndedWithin c.log low high t
 commit-cut c t scn low high commit above upto = record {
   entry = commit.entry;
   within = commit.within;
