@@ -1,21 +1,16 @@
 -- Flush before publish, and what a look at a unit covers.
-use Rattle.std.proofs.Common.{◌≡◌, ℕ, ◌+◌, ◌<◌, ◌≤◌, Bool, true, false, List, [], length, Option, Some, None, ◌⊎◌, inl, inr, refl, sym, ap, ◌∙◌, subst, arith}
+use Rattle.std.proofs.Common.{◌≡◌, ℕ, ◌<◌, ◌≤◌, true, List, ◌⊎◌, inl, inr, sym, ap, ◌∙◌, subst, arith}
 use Rattle.std.specs.List.{Contains}
 use Rattle.adg_base.specs.Address.{Place}
-use Rattle.adg_base.specs.Area.{Held, HoldsPlace, HoldsBegin}
 use Rattle.adg_base.specs.declared.log.LogEntry.{LogEntry}
-use Rattle.adg_model.specs.declared.mined.Mined.TheVariants as mined
-use Rattle.adg_model.specs.Mined.{mined_of}
 use Rattle.adg_model.specs.Database.{touched}
-use Rattle.core_rules.specs.Share.{share, EndedWithin, CommitsAt, NotRedefined}
+use Rattle.core_rules.specs.Share.{EndedWithin, CommitsAt, NotRedefined}
 use Rattle.core_rules.specs.Extents.{IsInExtent}
-use Rattle.core_rules.specs.State.{CoreState, Worker, ColumnUnit, At, share_of, limit}
+use Rattle.core_rules.specs.State.{CoreState, ColumnUnit}
 use Rattle.core_rules.specs.Flush.{Publishes}
 use Rattle.core_rules.specs.LogFacts.{LogHasFacts}
-use Rattle.core_rules.specs.Parts.{AreaIs, IsGone}
-use Rattle.core_rules.specs.UnitParts.{IsCovered, UnitIs}
-use Rattle.core_rules.specs.Covering.{Covers}
-use Rattle.core_rules.specs.Invariant.{Invariant, unit_place}
+use Rattle.core_rules.specs.UnitParts.{IsCovered}
+use Rattle.core_rules.specs.Invariant.{Invariant}
 use Rattle.core_rules.specs.Laws.{FlushBeforePublish, IsFlushed, UnitsCover}
 use Rattle.core_rules.proofs.Keeps.{Keeps}
 use Rattle.core_rules.proofs.UnitsPublished.{commit-cut}

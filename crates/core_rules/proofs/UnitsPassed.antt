@@ -1,17 +1,16 @@
 -- Units keep what holds of them where no more worklinks pass their places: at the begin of a flush, at Claim, at
 -- Collect and at Done.
-use Rattle.std.proofs.Common.{◌≡◌, ℕ, ◌+◌, ◌<◌, ◌≤◌, Bool, true, false, List, [], map, length, Option, Some, None, ◌⊎◌, inl, inr, refl, sym, ap, ◌∙◌, subst, arith, true≢false}
+use Rattle.std.proofs.Common.{◌≡◌, ℕ, ◌+◌, ◌<◌, true, List, [], map, length, ◌⊎◌, inl, inr, sym, ap, ◌∙◌, subst, arith, true≢false}
 use Rattle.std.specs.Prelude.{nat_lt, slice_set}
 use Rattle.std.proofs.lemmas.Bool.{ltb-true, lt-ltb}
-use Rattle.std.proofs.lemmas.List.{length-set, length-map}
+use Rattle.std.proofs.lemmas.List.{length-set}
 use Rattle.adg_base.specs.Shard.{shard_of_unit}
 use Rattle.adg_base.specs.declared.log.LogEntry.{LogEntry}
 use Rattle.adg_base.specs.declared.node.Item.{Item}
-use Rattle.core_rules.specs.Share.{CommitsAt}
-use Rattle.core_rules.specs.State.{CoreState, Worker, Stage, Unclaimed, Claimed, Finished, Link, ColumnUnit, At, is_past, has_txn, has_drop, PassesTxn, PassesDrop}
+use Rattle.core_rules.specs.State.{CoreState, Stage, Claimed, Finished, Link, ColumnUnit, At, is_past, has_txn, has_drop, PassesTxn, PassesDrop}
 use Rattle.core_rules.specs.Flush.{BeginsFlush, Claims, Collects, Finishes, unclaimed}
 use Rattle.core_rules.specs.UnitParts.{Counts, UnitIs}
-use Rattle.core_rules.specs.Invariant.{Invariant, AllUnits}
+use Rattle.core_rules.specs.Invariant.{AllUnits}
 use Rattle.core_rules.proofs.Keeps.{KeepsPart}
 use Rattle.core_rules.proofs.Lists.{at-within, at-set_cases, at-map_back}
 

@@ -1,17 +1,14 @@
 -- The publication keeps what holds of the units: what was cut is flushed at every unit shard.
-use Rattle.std.proofs.Common.{◌≡◌, ℕ, ◌+◌, ◌<◌, ◌≤◌, Bool, true, false, List, [], length, Option, Some, None, ◌⊎◌, inl, inr, refl, sym, ap, ◌∙◌, subst, arith}
+use Rattle.std.proofs.Common.{◌≡◌, ℕ, ◌+◌, ◌<◌, ◌≤◌, true, false, [], length, Some, None, ◌⊎◌, inl, inr, refl, sym, ap, subst, arith}
 use Rattle.std.specs.Prelude.{nat_lt}
-use Rattle.std.specs.List.{Contains, AllByRecursion}
 use Rattle.std.proofs.lemmas.Bool.{ltb-true, ltb-false}
 use Rattle.adg_base.specs.Shard.{shard_of_unit}
-use Rattle.adg_base.specs.declared.log.LogEntry.{LogEntry}
-use Rattle.core_rules.specs.Share.{redefines, EndedWithin, CommitsAt, NotRedefined}
-use Rattle.core_rules.specs.State.{CoreState, Quiesce, Stage, Unclaimed, Claimed, Finished, Link, ColumnUnit, At, cut_through, limit, is_past, is_finished, has_txn, has_drop, PassesTxn, PassesDrop}
+use Rattle.core_rules.specs.Share.{EndedWithin, CommitsAt, NotRedefined}
+use Rattle.core_rules.specs.State.{CoreState, Stage, Unclaimed, Claimed, Finished, Link, ColumnUnit, At, cut_through, limit, is_past, is_finished, PassesDrop}
 use Rattle.core_rules.specs.Flush.{Publishes}
-use Rattle.core_rules.specs.LogFacts.{LogHasFacts}
-use Rattle.core_rules.specs.UnitParts.{Counts, IsCovered, UnitIs}
+use Rattle.core_rules.specs.UnitParts.{Counts, UnitIs}
 use Rattle.core_rules.specs.Invariant.{Invariant, AllUnits}
-use Rattle.core_rules.proofs.Keeps.{KeepsPart, HasItem, EndsHaveItems, RedefinitionsHaveItems}
+use Rattle.core_rules.proofs.Keeps.{KeepsPart, EndsHaveItems, RedefinitionsHaveItems}
 use Rattle.core_rules.proofs.Lists.{each-at, is-true}
 use Rattle.core_rules.proofs.UnitsTouched.{commit-ends}
 

@@ -1,6 +1,6 @@
 -- A Touch keeps what holds of the units: all that a transaction of the worklink touched in an extent of the shard at
 -- the cursor was collected, and is marked, or the unit is marked wholly.
-use Rattle.std.proofs.Common.{◌≡◌, ℕ, ◌+◌, ◌%◌, ◌<◌, ◌≤◌, Bool, true, false, ◌&&◌, ◌||◌, ◌==◌, if◌then◌else◌, List, [], length, Option, Some, None, ◌⊎◌, inl, inr, refl, sym, ap, ◌∙◌, subst, arith, true≢false}
+use Rattle.std.proofs.Common.{◌≡◌, ℕ, ◌+◌, ◌%◌, ◌<◌, ◌≤◌, Bool, true, false, ◌&&◌, List, length, Option, Some, None, ◌⊎◌, inl, inr, refl, sym, ap, ◌∙◌, subst, arith, true≢false}
 use Rattle.std.specs.Prelude.{nat_eq, nat_lt, slice_set}
 use Rattle.std.specs.List.{Contains}
 use Rattle.std.proofs.lemmas.Bool.{ltb-true, ltb-false, eqb-true, eqb-false, eq-eqb, and_parts, or_left, or_right}
@@ -11,16 +11,13 @@ use Rattle.adg_base.specs.declared.vector.Vector.{Vector}
 use Rattle.adg_base.specs.declared.vector.Vector.TheVariants.{Begin, Put, Delete, Undo, Commit, Abort, Create, DropObject, AddColumn, NoInMemory, EndThread}
 use Rattle.adg_base.specs.declared.log.LogEntry.{LogEntry}
 use Rattle.adg_base.specs.declared.node.Item.{Item}
-use Rattle.adg_model.specs.declared.mined.Mined.{Mined}
-use Rattle.adg_model.specs.declared.mined.Mined.TheVariants as mined
-use Rattle.adg_model.specs.Mined.{mined_of, mined_by, mined_at}
-use Rattle.adg_model.specs.Database.{is_in_memory, place, table_at, touched, touched_by}
-use Rattle.core_rules.specs.Share.{is_shared_by, share, begins, ends, begun_above, NotedIn, CommitsAt, NotRedefined}
+use Rattle.adg_model.specs.Database.{touched_by}
+use Rattle.core_rules.specs.Share.{is_shared_by, share, begins, ends, begun_above, CommitsAt, NotRedefined}
 use Rattle.core_rules.specs.Extents.{IsInExtent}
-use Rattle.core_rules.specs.State.{CoreState, Stage, Claimed, Collected, Link, ColumnUnit, At, is_past, has_txn, has_change, has_coarse, has_drop, HasCollected, PassesTxn, PassesDrop}
-use Rattle.core_rules.specs.Flush.{Touches, Marks, IsMarked, IsKeptMarked, IsTouched}
+use Rattle.core_rules.specs.State.{CoreState, Stage, Claimed, Collected, ColumnUnit, is_past, has_txn, has_change, has_coarse, has_drop, PassesTxn, PassesDrop}
+use Rattle.core_rules.specs.Flush.{Touches, IsMarked, IsTouched}
 use Rattle.core_rules.specs.LogFacts.{LogFacts, LogHasFacts, IsInMemory}
-use Rattle.core_rules.specs.Parts.{NotedBelow, CollectedAre}
+use Rattle.core_rules.specs.Parts.{NotedBelow}
 use Rattle.core_rules.specs.UnitParts.{Counts, IsCovered, UnitIs, UnitIsBuilt}
 use Rattle.core_rules.specs.Invariant.{Invariant, AllUnits}
 use Rattle.core_rules.proofs.Keeps.{KeepsPart, CommitsHaveItems}
