@@ -10,14 +10,18 @@ use Rattle.adg_base.specs.declared.node.Item.{Item}
 use Rattle.core_rules.specs.State.{CoreState, Stage, Claimed, Finished, Link, ColumnUnit, At, is_past, has_txn, has_drop, PassesTxn, PassesDrop}
 use Rattle.core_rules.specs.Flush.{BeginsFlush, Claims, Collects, Finishes, unclaimed}
 use Rattle.core_rules.specs.UnitParts.{Counts, UnitIs}
-use Rattle.core_rules.specs.Invariant.{AllUnits}
+use Rattle.core_rules.specs.Invariant.{unit_place, AllUnits}
 use Rattle.core_rules.proofs.Keeps.{KeepsPart}
 use Rattle.core_rules.proofs.Lists.{at-within, at-set_cases, at-map_back}
+
+-- the worklinks with one at another stage
+abbrev pub staged : List Link → ℕ → Link → Stage → List Link
+staged links number link stage = slice_set links number (record link { stage = stage })
 
 -- A worklink with an item of a transaction that passes a place where one has another stage passed it before, or is
 -- this one.
 pub txn-passes : (links : List Link) (number : ℕ) (link : Link) (stage : Stage) (place t : ℕ)
-    → PassesTxn (slice_set links number (record link { stage = stage })) place t
+    → PassesTxn (staged links number link stage) place t
     → PassesTxn links place t ⊎ ((is_past place stage ≡ true) × (has_txn t link.items ≡ true))
 txn-passes links number link stage place t p = by_place (at-set_cases links number p.number p.link (record link { stage = stage }) p.found)
   where
@@ -27,7 +31,7 @@ txn-passes links number link stage place t p = by_place (at-set_cases links numb
     by_place (inr e) = inl (record { number = p.number; link = p.link; found = e.1; past = p.past; of = p.of })
 
 pub drop-passes : (links : List Link) (number : ℕ) (link : Link) (stage : Stage) (place obj : ℕ)
-    → PassesDrop (slice_set links number (record link { stage = stage })) place obj
+    → PassesDrop (staged links number link stage) place obj
     → PassesDrop links place obj ⊎ ((is_past place stage ≡ true) × (has_drop obj link.items ≡ true))
 drop-passes links number link stage place obj p = by_place (at-set_cases links number p.number p.link (record link { stage = stage }) p.found)
   where
@@ -39,7 +43,7 @@ drop-passes links number link stage place obj p = by_place (at-set_cases links n
 -- Where a worklink passes no place more than before, the worklinks with it so pass none more.
 pub txn-passed : (links : List Link) (number : ℕ) (link : Link) (stage : Stage) (place t : ℕ) → At links number link
     → (is_past place stage ≡ true → is_past place link.stage ≡ true)
-    → PassesTxn (slice_set links number (record link { stage = stage })) place t → PassesTxn links place t
+    → PassesTxn (staged links number link stage) place t → PassesTxn links place t
 txn-passed links number link stage place t found back p = either (txn-passes links number link stage place t p)
   where
     either : PassesTxn links place t ⊎ ((is_past place stage ≡ true) × (has_txn t link.items ≡ true)) → PassesTxn links place t
@@ -48,7 +52,7 @@ txn-passed links number link stage place t found back p = either (txn-passes lin
 
 pub drop-passed : (links : List Link) (number : ℕ) (link : Link) (stage : Stage) (place obj : ℕ) → At links number link
     → (is_past place stage ≡ true → is_past place link.stage ≡ true)
-    → PassesDrop (slice_set links number (record link { stage = stage })) place obj → PassesDrop links place obj
+    → PassesDrop (staged links number link stage) place obj → PassesDrop links place obj
 drop-passed links number link stage place obj found back p = either (drop-passes links number link stage place obj p)
   where
     either : PassesDrop links place obj ⊎ ((is_past place stage ≡ true) × (has_drop obj link.items ≡ true)) → PassesDrop links place obj
@@ -75,9 +79,9 @@ unit-kept log query next links more place moved obj extent u txns drops is = rec
 pub unit-staged : (c : CoreState) (number : ℕ) (link : Link) (stage : Stage) (obj extent place : ℕ) (u : ColumnUnit) → At c.links number link
     → (is_past place stage ≡ true → is_past place link.stage ≡ true)
     → UnitIs c.log c.query c.ticket c.links place obj extent u
-    → UnitIs c.log c.query c.ticket (slice_set c.links number (record link { stage = stage })) place obj extent u
+    → UnitIs c.log c.query c.ticket (staged c.links number link stage) place obj extent u
 unit-staged c number link stage obj extent place u found back =
-    unit-kept c.log c.query c.ticket c.links (slice_set c.links number (record link { stage = stage })) place place obj extent u
+    unit-kept c.log c.query c.ticket c.links (staged c.links number link stage) place place obj extent u
       (λ t. txn-passed c.links number link stage place t found back) (drop-passed c.links number link stage place obj found back)
 
 -- An unclaimed worklink passes no place.
@@ -88,15 +92,15 @@ none-pass parts n place l found past =
 
 pub begin_flush_units : (through : ℕ) → KeepsPart AllUnits (λ c new. BeginsFlush c through new)
 begin_flush_units through facts c new r i = subst AllUnits (sym r.effect) (λ obj extent u h.
-    unit-kept c.log c.query c.ticket c.links (map unclaimed r.parts) (length c.workers + shard_of_unit obj extent) _ obj extent u
+    unit-kept c.log c.query c.ticket c.links (map unclaimed r.parts) (unit_place c obj extent) _ obj extent u
       (λ t p. absurd (none-pass r.parts p.number _ p.link p.found p.past))
       (λ p. absurd (none-pass r.parts p.number _ p.link p.found p.past))
       (i.units obj extent u h))
 
 pub claim_units : (actor : ℕ) → KeepsPart AllUnits (λ c new. Claims c actor new)
 claim_units actor facts c new r i = subst AllUnits (sym r.effect) (λ obj extent u h.
-    unit-staged c r.number r.link (Claimed actor 0 []) obj extent (length c.workers + shard_of_unit obj extent) u r.first.found
-      (λ past. absurd (at_start (length c.workers + shard_of_unit obj extent) past))
+    unit-staged c r.number r.link (Claimed actor 0 []) obj extent (unit_place c obj extent) u r.first.found
+      (λ past. absurd (at_start (unit_place c obj extent) past))
       (i.units obj extent u h))
   where
     at_start : (place : ℕ) → nat_lt place 0 ≡ true → ⊥
@@ -105,9 +109,9 @@ claim_units actor facts c new r i = subst AllUnits (sym r.effect) (λ obj extent
 -- A cursor at an area is at no place of a unit shard.
 pub collect_units : (actor : ℕ) → KeepsPart AllUnits (λ c new. Collects c actor new)
 collect_units actor facts c new r i = subst AllUnits (sym r.effect) (λ obj extent u h.
-    subst (λ (n : ℕ). UnitIs c.log c.query c.ticket (slice_set c.links r.number (record r.link { stage = Claimed actor (r.cursor + 1) r.more })) (n + shard_of_unit obj extent) obj extent u)
+    subst (λ (n : ℕ). UnitIs c.log c.query c.ticket (staged c.links r.number r.link (Claimed actor (r.cursor + 1) r.more)) (n + shard_of_unit obj extent) obj extent u)
       (sym (length-set c.workers r.cursor (record r.was { area = r.area })))
-      (unit-staged c r.number r.link (Claimed actor (r.cursor + 1) r.more) obj extent (length c.workers + shard_of_unit obj extent) u r.has.found
+      (unit-staged c r.number r.link (Claimed actor (r.cursor + 1) r.more) obj extent (unit_place c obj extent) u r.has.found
         (λ past. absurd (behind (shard_of_unit obj extent) past))
         (i.units obj extent u h)))
   where
@@ -118,13 +122,13 @@ collect_units actor facts c new r i = subst AllUnits (sym r.effect) (λ obj exte
         absurd (omega arith)
 
 -- The shard of a unit is one of 32.
-pub unit_shard-below : (obj extent : ℕ) → shard_of_unit obj extent < 32
+unit_shard-below : (obj extent : ℕ) → shard_of_unit obj extent < 32
 unit_shard-below obj extent = omega arith
 
 -- A cursor behind all places has passed them.
 pub finish_units : (actor : ℕ) → KeepsPart AllUnits (λ c new. Finishes c actor new)
 finish_units actor facts c new r i = subst AllUnits (sym r.effect) (λ obj extent u h.
-    unit-staged c r.number r.link Finished obj extent (length c.workers + shard_of_unit obj extent) u r.has.found
+    unit-staged c r.number r.link Finished obj extent (unit_place c obj extent) u r.has.found
       (λ past. passed (shard_of_unit obj extent) (unit_shard-below obj extent))
       (i.units obj extent u h))
   where

@@ -1,13 +1,12 @@
 -- The publication keeps what holds of the units: what was cut is flushed at every unit shard.
-use Rattle.std.proofs.Common.{◌≡◌, ℕ, ◌+◌, ◌<◌, ◌≤◌, true, false, [], length, Some, None, ◌⊎◌, inl, inr, refl, sym, ap, subst, arith}
+use Rattle.std.proofs.Common.{◌≡◌, ℕ, ◌<◌, ◌≤◌, true, false, [], Some, None, ◌⊎◌, inl, inr, refl, sym, ap, subst, arith}
 use Rattle.std.specs.Prelude.{nat_lt}
 use Rattle.std.proofs.lemmas.Bool.{ltb-true, ltb-false}
-use Rattle.adg_base.specs.Shard.{shard_of_unit}
 use Rattle.core_rules.specs.Share.{EndedWithin, CommitsAt, NotRedefined}
 use Rattle.core_rules.specs.State.{CoreState, Stage, Unclaimed, Claimed, Finished, Link, ColumnUnit, At, cut_through, limit, is_past, is_finished, PassesDrop}
 use Rattle.core_rules.specs.Flush.{Publishes}
 use Rattle.core_rules.specs.UnitParts.{Counts, UnitIs}
-use Rattle.core_rules.specs.Invariant.{Invariant, AllUnits}
+use Rattle.core_rules.specs.Invariant.{Invariant, unit_place, AllUnits}
 use Rattle.core_rules.proofs.Keeps.{KeepsPart, EndsHaveItems, RedefinitionsHaveItems}
 use Rattle.core_rules.proofs.Lists.{each-at, is-true}
 use Rattle.core_rules.proofs.UnitsTouched.{commit-ends}
@@ -18,7 +17,7 @@ done-past place Unclaimed h = h
 done-past place (Claimed actor cursor collected) h = let e : false ≡ true = h in absurd cc
 done-past place Finished h = refl
 
--- What was published lies at most at the SCN of the flush, and so does all that a commit ends there.
+-- A commit at an SCN above one and at most at another ends its transaction between them.
 pub commit-cut : (c : CoreState) (t scn low high : ℕ) → CommitsAt c.log t scn → low < scn → scn ≤ high → EndedWithin c.log low high t
 commit-cut c t scn low high commit above upto = record {
   entry = commit.entry;
@@ -81,4 +80,4 @@ module _ (c new : CoreState) (r : Publishes c new) (i : Invariant c) where
 
 pub publish_units : EndsHaveItems → RedefinitionsHaveItems → KeepsPart AllUnits Publishes
 publish_units ends_have changes_have facts c new r i = subst AllUnits (sym r.effect) (λ obj extent u h.
-    unit-published c new r i ends_have changes_have (length c.workers + shard_of_unit obj extent) obj extent u (i.units obj extent u h))
+    unit-published c new r i ends_have changes_have (unit_place c obj extent) obj extent u (i.units obj extent u h))

@@ -1,7 +1,7 @@
 -- A Touch keeps what holds of the units: all that a transaction of the worklink touched in an extent of the shard at
 -- the cursor was collected, and is marked, or the unit is marked wholly.
 use Rattle.std.proofs.Common.{◌≡◌, ℕ, ◌+◌, ◌%◌, ◌<◌, ◌≤◌, Bool, true, false, ◌&&◌, List, length, Option, Some, None, ◌⊎◌, inl, inr, refl, sym, ap, ◌∙◌, subst, arith, true≢false}
-use Rattle.std.specs.Prelude.{nat_eq, nat_lt, slice_set}
+use Rattle.std.specs.Prelude.{nat_eq, nat_lt}
 use Rattle.std.specs.List.{Contains}
 use Rattle.std.proofs.lemmas.Bool.{ltb-true, ltb-false, eqb-true, eqb-false, eq-eqb, and_parts, or_left, or_right}
 use Rattle.std.proofs.lemmas.Nat.{mod_below}
@@ -14,15 +14,15 @@ use Rattle.adg_base.specs.declared.node.Item.{Item}
 use Rattle.adg_model.specs.Database.{touched_by}
 use Rattle.core_rules.specs.Share.{is_shared_by, share, begins, ends, begun_above, CommitsAt, NotRedefined}
 use Rattle.core_rules.specs.Extents.{IsInExtent}
-use Rattle.core_rules.specs.State.{CoreState, Stage, Claimed, Collected, ColumnUnit, is_past, has_txn, has_change, has_coarse, has_drop, PassesTxn, PassesDrop}
+use Rattle.core_rules.specs.State.{CoreState, Stage, Claimed, Collected, Link, ColumnUnit, is_past, has_txn, has_change, has_coarse, has_drop, PassesTxn, PassesDrop}
 use Rattle.core_rules.specs.Flush.{Touches, IsMarked, IsTouched}
 use Rattle.core_rules.specs.LogFacts.{LogFacts, LogHasFacts, IsInMemory}
 use Rattle.core_rules.specs.Parts.{NotedBelow}
 use Rattle.core_rules.specs.UnitParts.{Counts, IsCovered, UnitIs, UnitIsBuilt}
-use Rattle.core_rules.specs.Invariant.{Invariant, AllUnits}
+use Rattle.core_rules.specs.Invariant.{Invariant, unit_place, AllUnits}
 use Rattle.core_rules.proofs.Keeps.{KeepsPart, CommitsHaveItems}
 use Rattle.core_rules.proofs.Lists.{contains-filter, contains-filter_map_back, any-contains_back, is-true}
-use Rattle.core_rules.proofs.UnitsPassed.{txn-passes, drop-passes, unit-staged}
+use Rattle.core_rules.proofs.UnitsPassed.{staged, txn-passes, drop-passes, unit-staged}
 
 -- the shard of a vector that touches an address
 touch-shard : (t : ℕ) (a : Place) (v : Vector) → touched_by t v ≡ Some a → (shard : ℕ) × (shard_of_vector v ≡ Some shard)
@@ -47,8 +47,8 @@ entry-shared workers shard log e manned within of = (
       (ap (is_shared_by workers (shard % workers)) of ∙ eq-eqb (shard % workers) (shard % workers) refl))
 
 -- The entries of a transaction that began above an SCN lie above it.
-touch-above : (c : CoreState) (t : ℕ) (a : Place) (e : LogEntry) → LogFacts c.log c.frontier → begun_above c.log c.born t ≡ true → Contains c.log e → touched_by t e.vector ≡ Some a
-    → c.born < e.scn
+touch-above : (c : CoreState) (t : ℕ) (a : Place) (e : LogEntry) → LogFacts c.log c.frontier → begun_above c.log c.born t ≡ true → Contains c.log e
+    → touched_by t e.vector ≡ Some a → c.born < e.scn
 touch-above c t a e facts begun within touches =
     let b = any-contains_back (λ (x : LogEntry). begins t x.vector && nat_lt c.born x.scn) c.log begun in
     let tests = and_parts (begins t (b.0).vector) (nat_lt c.born (b.0).scn) b.2 in
@@ -62,7 +62,8 @@ touch-above c t a e facts begun within touches =
 -- What a transaction touched in an object that stays in-memory was noted in the share of one of the workers.
 pub touch-noted : (c : CoreState) (t : ℕ) (a : Place) (e : LogEntry) (low high cursor : ℕ) → Invariant c → LogFacts c.log c.frontier
     → begun_above c.log c.born t ≡ true → Contains c.log e → touched_by t e.vector ≡ Some a → e.scn ≤ high
-    → IsInMemory c.log a.obj low → NotRedefined c.log a.obj low high → length c.workers ≤ cursor → NotedBelow c.log c.born (length c.workers) cursor t a
+    → IsInMemory c.log a.obj low → NotRedefined c.log a.obj low high → length c.workers ≤ cursor
+    → NotedBelow c.log c.born (length c.workers) cursor t a
 touch-noted c t a e low high cursor i facts begun within touches upto in_memory same behind =
     let of = touch-shard t a e.vector touches in
     let shared = entry-shared (length c.workers) of.0 c.log e i.manned within of.1 in
@@ -94,15 +95,23 @@ touched-stood items collected obj extent (Some old) new u (inr h) e =
 pub commit-ends : (t : ℕ) (flag : Bool) (v : Vector) → v ≡ Commit t flag → ends t v ≡ true
 commit-ends t flag v h = ap (ends t) h ∙ eq-eqb t t refl
 
+-- the worklinks after a Touch
+abbrev links_after : (c : CoreState) (actor : ℕ) (new : CoreState) → Touches c actor new → List Link
+links_after c actor new r = staged c.links r.number r.link (Claimed actor (r.cursor + 1) r.collected)
+
 -- Of a Touch at the shard of a unit: the unit before it and after it.
-module _ (c : CoreState) (actor : ℕ) (new : CoreState) (r : Touches c actor new) (i : Invariant c) (facts : LogFacts c.log c.frontier) (obj extent : ℕ) (w u : ColumnUnit)
-    (is : UnitIs c.log c.query c.ticket c.links (length c.workers + shard_of_unit obj extent) obj extent w)
+module _ (have : CommitsHaveItems) (every : LogHasFacts) (c : CoreState) (actor : ℕ) (new : CoreState) (r : Touches c actor new) (i : Invariant c)
+    (obj extent : ℕ) (w u : ColumnUnit) (is : UnitIs c.log c.query c.ticket c.links (unit_place c obj extent) obj extent w)
     (marked : IsMarked r.link.items r.collected obj extent w u) where
+  facts : LogFacts c.log c.frontier
+  facts = every c.log c.frontier i.log
+
   -- What was covered stays so.
   covered-more : (t : ℕ) → IsCovered c.log t obj extent w → IsCovered c.log t obj extent u
   covered-more t (inl whole) = inl (marked.all ∙ or_left w.all (has_coarse r.link.items) whole)
   covered-more t (inr each) = inr (λ a touches within. marked.kept a (each a touches within))
 
+  -- An address of the extent is one of the unit's object.
   in_memory : (a : Place) → IsInExtent obj extent a → IsInMemory c.log a.obj w.snapshot
   in_memory a within = subst (λ (o : ℕ). IsInMemory c.log o w.snapshot) (sym within.object)
     (record { table = is.built.table; defined = is.built.defined; flag = is.built.in_memory })
@@ -128,15 +137,17 @@ module _ (c : CoreState) (actor : ℕ) (new : CoreState) (r : Touches c actor ne
       let below = touch-noted c t a e.0 w.snapshot f.scn r.cursor i facts begun e.1 e.2 upto.1 (in_memory a within) (unchanged a f.scn within same) behind in
       marked.gained a (record { txn = t; change = change; noted = all.all t a of below; within = within }))
 
-  commit-covered : CommitsHaveItems → LogHasFacts → (t : ℕ) (f : LogEntry) (flag : Bool) → Contains c.log f → f.vector ≡ Commit t flag → NotRedefined c.log obj w.snapshot f.scn
+  commit-covered : (t : ℕ) (f : LogEntry) (flag : Bool) → Contains c.log f → f.vector ≡ Commit t flag → NotRedefined c.log obj w.snapshot f.scn
       → has_txn t r.link.items ≡ true → IsCovered c.log t obj extent u
-  commit-covered have every t f false there commits same of = commit-plain t f there commits same
-  commit-covered have every t f true there commits same of = either (have every c i r.number r.link t f r.has.found of there commits)
+  commit-covered t f false there commits same of = commit-plain t f there commits same
+  commit-covered t f true there commits same of = either (have every c i r.number r.link t f r.has.found of there commits)
     where
-      either : ((begun_above c.log c.born t ≡ true) × (has_change t r.link.items ≡ true)) ⊎ ((begun_above c.log c.born t ≡ false) × (has_coarse r.link.items ≡ true)) → IsCovered c.log t obj extent u
+      either : ((begun_above c.log c.born t ≡ true) × (has_change t r.link.items ≡ true)) ⊎ ((begun_above c.log c.born t ≡ false) × (has_coarse r.link.items ≡ true))
+          → IsCovered c.log t obj extent u
       either (inl p) = commit-changed t f there commits same of p.0 p.1
       either (inr p) = inl (marked.all ∙ or_right w.all (has_coarse r.link.items) p.1)
 
+  -- The snapshot and the columns stay.
   as_before : u.snapshot ≡ w.snapshot
   as_before = ap (λ (x : ColumnUnit). x.snapshot) marked.same
 
@@ -144,48 +155,46 @@ module _ (c : CoreState) (actor : ℕ) (new : CoreState) (r : Touches c actor ne
   built = subst (λ (x : ColumnUnit). UnitIsBuilt c.log obj extent x) (sym marked.same)
     (record { table = is.built.table; defined = is.built.defined; in_memory = is.built.in_memory; within = is.built.within; columns = is.built.columns })
 
-  covered : CommitsHaveItems → LogHasFacts → (t scn : ℕ) → CommitsAt c.log t scn → u.snapshot < scn
-      → Counts c.query (slice_set c.links r.number (record r.link { stage = Claimed actor (r.cursor + 1) r.collected })) (length c.workers + shard_of_unit obj extent) t scn
+  -- What counts counted before, or is of the worklink.
+  covered : (t scn : ℕ) → CommitsAt c.log t scn → u.snapshot < scn → Counts c.query (links_after c actor new r) (unit_place c obj extent) t scn
       → NotRedefined c.log obj u.snapshot scn → IsCovered c.log t obj extent u
-  covered have every t scn commit above counts same = by_count counts
+  covered t scn commit above counts same = by_count counts
     where
       above_before : w.snapshot < scn
       above_before = subst (λ (n : ℕ). n < scn) as_before above
       same_before : NotRedefined c.log obj w.snapshot scn
       same_before = subst (λ (n : ℕ). NotRedefined c.log obj n scn) as_before same
-      by_pass : PassesTxn c.links (length c.workers + shard_of_unit obj extent) t
-          ⊎ ((is_past (length c.workers + shard_of_unit obj extent) (Claimed actor (r.cursor + 1) r.collected) ≡ true) × (has_txn t r.link.items ≡ true)) → IsCovered c.log t obj extent u
+      by_pass : PassesTxn c.links (unit_place c obj extent) t
+          ⊎ ((is_past (unit_place c obj extent) (Claimed actor (r.cursor + 1) r.collected) ≡ true) × (has_txn t r.link.items ≡ true)) → IsCovered c.log t obj extent u
       by_pass (inl q) = covered-more t (is.covered t scn commit above_before (inr q) same_before)
-      by_pass (inr q) = commit-covered have every t commit.entry commit.flag commit.within commit.commits
+      by_pass (inr q) = commit-covered t commit.entry commit.flag commit.within commit.commits
         (subst (λ (n : ℕ). NotRedefined c.log obj w.snapshot n) (sym commit.at) same_before) q.1
-      by_count : Counts c.query (slice_set c.links r.number (record r.link { stage = Claimed actor (r.cursor + 1) r.collected })) (length c.workers + shard_of_unit obj extent) t scn
-          → IsCovered c.log t obj extent u
+      by_count : Counts c.query (links_after c actor new r) (unit_place c obj extent) t scn → IsCovered c.log t obj extent u
       by_count (inl l) = covered-more t (is.covered t scn commit above_before (inl l) same_before)
       by_count (inr p) =
-          by_pass (txn-passes c.links r.number r.link (Claimed actor (r.cursor + 1) r.collected) (length c.workers + shard_of_unit obj extent) t p)
+          by_pass (txn-passes c.links r.number r.link (Claimed actor (r.cursor + 1) r.collected) (unit_place c obj extent) t p)
 
-  not_dropped : has_drop obj r.link.items ≡ false
-      → PassesDrop (slice_set c.links r.number (record r.link { stage = Claimed actor (r.cursor + 1) r.collected })) (length c.workers + shard_of_unit obj extent) obj → ⊥
-  not_dropped kept p = either (drop-passes c.links r.number r.link (Claimed actor (r.cursor + 1) r.collected) (length c.workers + shard_of_unit obj extent) obj p)
+  -- The worklink does not drop the object's units.
+  not_dropped : has_drop obj r.link.items ≡ false → PassesDrop (links_after c actor new r) (unit_place c obj extent) obj → ⊥
+  not_dropped kept p = either (drop-passes c.links r.number r.link (Claimed actor (r.cursor + 1) r.collected) (unit_place c obj extent) obj p)
     where
-      either : PassesDrop c.links (length c.workers + shard_of_unit obj extent) obj
-          ⊎ ((is_past (length c.workers + shard_of_unit obj extent) (Claimed actor (r.cursor + 1) r.collected) ≡ true) × (has_drop obj r.link.items ≡ true)) → ⊥
+      either : PassesDrop c.links (unit_place c obj extent) obj
+          ⊎ ((is_past (unit_place c obj extent) (Claimed actor (r.cursor + 1) r.collected) ≡ true) × (has_drop obj r.link.items ≡ true)) → ⊥
       either (inl q) = is.stands.kept q
       either (inr q) = true≢false (sym q.1 ∙ kept)
 
-  unit-touched : CommitsHaveItems → LogHasFacts → has_drop obj r.link.items ≡ false
-      → UnitIs c.log c.query c.ticket (slice_set c.links r.number (record r.link { stage = Claimed actor (r.cursor + 1) r.collected }))
-        (length c.workers + shard_of_unit obj extent) obj extent u
-  unit-touched have every kept = record {
+  unit-touched : has_drop obj r.link.items ≡ false → UnitIs c.log c.query c.ticket (links_after c actor new r) (unit_place c obj extent) obj extent u
+  unit-touched kept = record {
     snapshot = subst (λ (n : ℕ). n ≤ c.query) (sym as_before) is.snapshot;
     ticket = subst (λ (n : ℕ). n < c.ticket) (sym (ap (λ (x : ColumnUnit). x.ticket) marked.same)) is.ticket;
     built = built;
-    covered = covered have every;
+    covered = covered;
     stands = record { same = subst (λ (n : ℕ). NotRedefined c.log obj n c.query) (sym as_before) is.stands.same; kept = not_dropped kept };
   }
 
 -- A cursor at a unit shard that goes on passes the place of this shard alone.
-passed-before : (workers shard here cursor : ℕ) → cursor ≡ workers + here → (shard ≡ here → ⊥) → nat_lt (workers + shard) (cursor + 1) ≡ true → nat_lt (workers + shard) cursor ≡ true
+passed-before : (workers shard here cursor : ℕ) → cursor ≡ workers + here → (shard ≡ here → ⊥) → nat_lt (workers + shard) (cursor + 1) ≡ true
+    → nat_lt (workers + shard) cursor ≡ true
 passed-before workers shard here cursor at apart past =
     let l : workers + shard < cursor + 1 = ltb-true (workers + shard) (cursor + 1) past in
     by_order (is-true (nat_lt (workers + shard) cursor)) l
@@ -203,15 +212,14 @@ touch_units have actor every c new r i = subst AllUnits (sym r.effect)
   where
     by_shard : (obj extent : ℕ) (u : ColumnUnit) → r.units obj extent ≡ Some u
         → (nat_eq (shard_of_unit obj extent) r.shard ≡ true) ⊎ (nat_eq (shard_of_unit obj extent) r.shard ≡ false)
-        → UnitIs c.log c.query c.ticket (slice_set c.links r.number (record r.link { stage = Claimed actor (r.cursor + 1) r.collected }))
-          (length c.workers + shard_of_unit obj extent) obj extent u
+        → UnitIs c.log c.query c.ticket (links_after c actor new r) (unit_place c obj extent) obj extent u
     by_shard obj extent u h (inl e) =
         let was = touched-stood r.link.items r.collected obj extent (c.units obj extent) (r.units obj extent) u
           (r.touched obj extent (eqb-true (shard_of_unit obj extent) r.shard e)) h in
-        unit-touched c actor new r i (every c.log c.frontier i.log) obj extent was.0 u (i.units obj extent was.0 was.1) was.3 have every was.2
+        unit-touched have every c actor new r i obj extent was.0 u (i.units obj extent was.0 was.1) was.3 was.2
     by_shard obj extent u h (inr e) =
         let apart = eqb-false (shard_of_unit obj extent) r.shard e in
-        unit-staged c r.number r.link (Claimed actor (r.cursor + 1) r.collected) obj extent (length c.workers + shard_of_unit obj extent) u r.has.found
-          (λ past. subst (λ (s : Stage). is_past (length c.workers + shard_of_unit obj extent) s ≡ true) (sym r.has.stage)
+        unit-staged c r.number r.link (Claimed actor (r.cursor + 1) r.collected) obj extent (unit_place c obj extent) u r.has.found
+          (λ past. subst (λ (s : Stage). is_past (unit_place c obj extent) s ≡ true) (sym r.has.stage)
             (passed-before (length c.workers) (shard_of_unit obj extent) r.shard r.cursor r.at apart past))
           (i.units obj extent u (sym (r.others obj extent apart) ∙ h))
