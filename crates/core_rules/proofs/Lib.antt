@@ -8,3 +8,8 @@ pub mod MinedLists
 pub mod MinedEntry
 pub mod Restarted
 pub mod Joined
+pub mod UnitsPassed
+pub mod UnitsTouched
+pub mod UnitsPublished
+pub mod PreciseMarks
+pub mod FlushLaw
