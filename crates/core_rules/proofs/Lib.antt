@@ -13,3 +13,13 @@ pub mod UnitsTouched
 pub mod UnitsPublished
 pub mod PreciseMarks
 pub mod FlushLaw
+pub mod Staged
+pub mod Permuted
+pub mod Claimed
+pub mod Collecting
+pub mod Once
+pub mod Begun
+pub mod BegunFlush
+pub mod Published
+pub mod Ending
+pub mod ExactWorkers
