@@ -23,3 +23,5 @@ pub mod BegunFlush
 pub mod Published
 pub mod Ending
 pub mod ExactWorkers
+pub mod ExactFlush
+pub mod ExactTouch
