@@ -13,3 +13,7 @@ pub mod UnitsTouched
 pub mod UnitsPublished
 pub mod PreciseMarks
 pub mod FlushLaw
+pub mod FactsOrder
+pub mod FactsTxns
+pub mod FactsRows
+pub mod Facts
