@@ -17,3 +17,5 @@ pub mod FactsOrder
 pub mod FactsTxns
 pub mod FactsRows
 pub mod Facts
+pub mod Continued
+pub mod Received
