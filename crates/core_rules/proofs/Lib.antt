@@ -18,4 +18,5 @@ pub mod FactsTxns
 pub mod FactsRows
 pub mod Facts
 pub mod Continued
+pub mod ReceivedParts
 pub mod Received
