@@ -1,7 +1,6 @@
 -- A log with entries that continue it: what was there stays as it is, at every SCN up to the old frontier.
-use Rattle.std.proofs.Common.{◌≡◌, ℕ, zero, suc, ◌+◌, ◌<◌, ◌≤◌, Bool, true, false, cond, List, [], ◌∷◌, ◌++◌, map, filter, length, take, Option, Some, None, ◌⊎◌, inl, inr, refl, sym, ap, ap₂, ◌∙◌, subst, arith, append-nil, true≢false}
-use Rattle.std.specs.Prelude.{◌==◌}
-use Rattle.std.specs.List.{Contains, AllByRecursion, filter_map, flat_map, range_with_len, cons_option}
+use Rattle.std.proofs.Common.{◌≡◌, ℕ, suc, ◌+◌, ◌<◌, ◌≤◌, Bool, true, false, cond, List, [], ◌∷◌, ◌++◌, filter, length, take, Option, Some, None, ◌⊎◌, inl, inr, refl, sym, ap, ap₂, ◌∙◌, subst, arith, append-nil}
+use Rattle.std.specs.List.{Contains, AllByRecursion, filter_map, flat_map, cons_option}
 use Rattle.std.proofs.lemmas.Bool.{eq-eqb}
 use Rattle.std.proofs.lemmas.List.{take-append-le}
 use Rattle.std.proofs.lemmas.List.Elements.{filter-append, filter_map-append}
@@ -10,7 +9,6 @@ use Rattle.adg_base.specs.Shard.{shard_of_vector}
 use Rattle.adg_base.specs.declared.vector.Vector.{Vector}
 use Rattle.adg_base.specs.declared.vector.Vector.TheVariants.{Begin, Put, Delete, Undo, Commit, Abort, Create, DropObject, AddColumn, NoInMemory, EndThread}
 use Rattle.adg_base.specs.declared.log.LogEntry.{LogEntry}
-use Rattle.adg_base.specs.declared.node.Node.{Node}
 use Rattle.adg_base.specs.declared.node.NodeKind.TheVariants as node
 use Rattle.adg_model.specs.declared.mined.Mined.TheVariants as mined
 use Rattle.adg_model.specs.Log.{numbered}
@@ -19,7 +17,7 @@ use Rattle.adg_model.specs.Sound.{IsContinuation}
 use Rattle.adg_model.specs.Mined.{mined_of, mined_by}
 use Rattle.adg_model.proofs.LogLaws.{numbered-append}
 use Rattle.adg_model.proofs.RowLaws.{rows_stop_at_scn}
-use Rattle.core_rules.specs.Share.{is_shared_by, share, begins, ends, begun_above, node_by, node_of, nodes_of, CommitsAt}
+use Rattle.core_rules.specs.Share.{is_shared_by, share, ends, begun_above, node_by, node_of, nodes_of, CommitsAt}
 use Rattle.core_rules.specs.State.{At}
 use Rattle.core_rules.specs.LogFacts.{IsLog, LogFacts}
 use Rattle.core_rules.specs.Parts.{mined_from}
@@ -75,9 +73,9 @@ module _ (log entries : List LogEntry) (old new : ℕ) (is : IsLog log old) (mor
   log_continued = record {
     sound = more.sound;
     places =
-      let here : 0 + length log ≡ length log = omega arith in
-      let rest : numbered (0 + length log) entries ≡ entries = ap (λ (n : ℕ). numbered n entries) here ∙ more.places in
-      numbered-append 0 log entries ∙ ap₂ (λ xs ys. xs ++ ys) is.places rest;
+        let here : 0 + length log ≡ length log = omega arith in
+        let rest : numbered (0 + length log) entries ≡ entries = ap (λ (n : ℕ). numbered n entries) here ∙ more.places in
+        numbered-append 0 log entries ∙ ap₂ (λ xs ys. xs ++ ys) is.places rest;
     scns = scns_append 1 old new log entries is.scns more.scns (omega arith) more.forward;
   }
 
@@ -140,13 +138,16 @@ module _ (log entries : List LogEntry) (old new : ℕ) (is : IsLog log old) (mor
     where
       split : (h : LogEntry → Option Y) (xs ys : List LogEntry) → filter test (filter_map h (xs ++ ys)) ≡ filter test (filter_map h xs) ++ filter test (filter_map h ys)
       split h xs ys = ap (filter test) (filter_map-append h xs ys) ∙ filter-append test (filter_map h xs) (filter_map h ys)
+
       member : (xs : List LogEntry) (e : LogEntry) → Has (share workers w xs) e → Has xs e
       member xs e h = (has-filter_back (λ (x : LogEntry). is_shared_by workers w (shard_of_vector x.vector)) xs e h).0
+
       fresh : filter test (filter_map f (share workers w entries)) ≡ []
       fresh = filter-none test (filter_map f (share workers w entries)) (λ y h. each y (has-filter_map_back f (share workers w entries) y h))
         where
           each : (y : Y) → (e : LogEntry) × Has (share workers w entries) e × (f e ≡ Some y) → test y ≡ false
           each y r = none r.0 y (member entries r.0 r.1) r.2
+
       here : filter test (filter_map f (share workers w (log ++ entries))) ≡ filter test (filter_map g (share workers w log))
       here =
           ap (λ es. filter test (filter_map f es)) (share_grows workers w)
@@ -183,6 +184,7 @@ module _ (log entries : List LogEntry) (old new : ℕ) (is : IsLog log old) (mor
             let before : b.0.scn ≤ e.scn = b.4 in
             let end : e.scn ≤ old = received log old is e w in
             entry-begun log scn t r.0 (was_within r.0 r.1 (omega arith)) r.2 r.3
+
         forth : begun_above log scn t ≡ true → begun_above (log ++ entries) scn t ≡ true
         forth h = let r = begun-entry log scn t h in entry-begun (log ++ entries) scn t r.0 (stays_within r.0 r.1) r.2 r.3
 

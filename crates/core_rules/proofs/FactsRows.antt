@@ -1,21 +1,20 @@
 -- A row stays where no transaction that touched it commits.
-use Rattle.std.proofs.Common.{◌≡◌, ℕ, zero, suc, ◌+◌, ◌<◌, ◌≤◌, Bool, true, false, cond, List, [], ◌∷◌, ◌++◌, take, filter, Option, Some, None, ◌⊎◌, inl, inr, refl, sym, ap, ◌∙◌, subst, arith, true≢false}
-use Rattle.std.specs.Prelude.{◌==◌, ◌&&◌, ◌||◌, nat_le}
-use Rattle.std.specs.List.{Contains, AllByRecursion}
-use Rattle.std.proofs.lemmas.Bool.{eqb-true, eq-eqb, leb-true, and_parts, or_parts, or_from}
+use Rattle.std.proofs.Common.{◌≡◌, ℕ, suc, ◌<◌, ◌≤◌, Bool, true, false, cond, List, [], ◌∷◌, ◌++◌, take, Some, None, ◌⊎◌, inl, inr, refl, sym, ap, ◌∙◌, subst, arith, true≢false}
+use Rattle.std.specs.Prelude.{◌==◌, ◌||◌, nat_le}
+use Rattle.std.specs.List.{AllByRecursion}
+use Rattle.std.proofs.lemmas.Bool.{eqb-true, eq-eqb, leb-true, and_parts, or_parts}
 use Rattle.adg_base.specs.Address.{Place}
-use Rattle.adg_base.specs.declared.value.Value.{Value}
 use Rattle.adg_base.specs.declared.vector.Vector.{Vector}
 use Rattle.adg_base.specs.declared.vector.Vector.TheVariants.{Begin, Put, Delete, Undo, Commit, Abort, Create, DropObject, AddColumn, NoInMemory, EndThread}
 use Rattle.adg_base.specs.declared.log.LogEntry.{LogEntry}
 use Rattle.adg_model.specs.Log.{upto}
-use Rattle.adg_model.specs.Database.{Rows, Change, Database, no_database, set_at, same_place, place, played, struck, has_change, after, walked, database, database_at, rows_at, touched_by, touched, commits}
-use Rattle.adg_model.proofs.LogLaws.{upto_all, upto-append, scns_split, each_weaker}
+use Rattle.adg_model.specs.Database.{Rows, Change, Database, no_database, set_at, same_place, place, played, struck, has_change, after, walked, database, rows_at, touched_by, touched, commits}
+use Rattle.adg_model.proofs.LogLaws.{upto_all, upto-append, scns_split}
 use Rattle.adg_model.proofs.RowLaws.{walked-append}
 use Rattle.core_rules.specs.Share.{CommitsAt}
 use Rattle.core_rules.specs.State.{At}
 use Rattle.core_rules.specs.LogFacts.{IsLog, NotTouched}
-use Rattle.core_rules.proofs.Lists.{Has, has-at, has-take, has-filter_back, has-filter_map, has-filter_map_back, has-append_left, has-append_right, has-append_cases, contains, has, each-has, at-take_back}
+use Rattle.core_rules.proofs.Lists.{Has, has-at, has-take, has-filter_back, has-filter_map, has-append_right, contains, each-has}
 use Rattle.core_rules.proofs.FactsOrder.{scns_rise}
 
 place_same : (a b : Place) → same_place a b ≡ true → b ≡ a
@@ -63,9 +62,11 @@ struck_has a b (c ∷ cs) h = by_test (same_place b c.at) h (struck_has a b cs)
     either : (x y z : Bool) → (y ≡ true → z ≡ true) → (x || y) ≡ true → (x || z) ≡ true
     either true y z f k = refl
     either false y z f k = f k
+
     late : (x y : Bool) → y ≡ true → (x || y) ≡ true
     late true y k = refl
     late false y k = k
+
     by_test : (x : Bool) → has_change a (cond x cs (c ∷ struck b cs)) ≡ true → (has_change a (struck b cs) ≡ true → has_change a cs ≡ true)
         → has_change a (c ∷ cs) ≡ true
     by_test true k f = late (same_place a c.at) (has_change a cs) k
@@ -79,6 +80,7 @@ changed_has db txn t a c h = by_test (t == txn) refl h
         → (has_change a (db.pending t) ≡ true) ⊎ (cond (txn == t) (Some c.at) None ≡ Some a)
     parts e true s k = inr (ap (λ (b : Bool). cond b (Some c.at) None) (eq-eqb txn t (sym e)) ∙ ap Some (place_same a c.at s))
     parts e false s k = inl (subst (λ n. has_change a (db.pending n) ≡ true) (sym e) k)
+
     by_test : (x : Bool) → (t == txn) ≡ x → has_change a (cond x (c ∷ db.pending txn) (db.pending t)) ≡ true
         → (has_change a (db.pending t) ≡ true) ⊎ (cond (txn == t) (Some c.at) None ≡ Some a)
     by_test true e k = parts (eqb-true t txn e) (same_place a c.at) refl k
@@ -121,6 +123,7 @@ pending_walked db (x ∷ xs) t a h = either (pending_walked (after db x.vector) 
     now : (has_change a (db.pending t) ≡ true) ⊎ (touched_by t x.vector ≡ Some a) → (has_change a (db.pending t) ≡ true) ⊎ ((e : LogEntry) × Has (x ∷ xs) e × (touched_by t e.vector ≡ Some a))
     now (inl k) = inl k
     now (inr k) = inr (x, inl refl, k)
+
     either : (has_change a ((after db x.vector).pending t) ≡ true) ⊎ ((e : LogEntry) × Has xs e × (touched_by t e.vector ≡ Some a))
         → (has_change a (db.pending t) ≡ true) ⊎ ((e : LogEntry) × Has (x ∷ xs) e × (touched_by t e.vector ≡ Some a))
     either (inl k) = now (pending_after db x.vector t a k)
@@ -152,12 +155,15 @@ module _ (log : List LogEntry) (a : Place) (low high : ℕ) (none : NotTouched l
           let v = commit_vector t e.vector c in
           let here : CommitsAt log t e.scn = record { entry = e; flag = v.0; within = contains log e w.0; commits = v.1; at = refl } in
           none t e.scn here w.1 w.2 (contains (touched t log) a (has-filter_map (λ (y : LogEntry). touched_by t y.vector) log x a h k))
+
       earlier : (has_change a ((no_database).pending t) ≡ true) ⊎ ((x : LogEntry) × Has (upto low log) x × (touched_by t x.vector ≡ Some a)) → ⊥
       earlier (inl k) = true≢false (sym k)
       earlier (inr r) = never r.0 (has-filter_back (λ (y : LogEntry). nat_le y.scn low) log r.0 r.1).0 r.2
+
       either : (has_change a ((walked no_database (upto low log)).pending t) ≡ true) ⊎ ((x : LogEntry) × Has (take n rest) x × (touched_by t x.vector ≡ Some a)) → ⊥
       either (inl k) = earlier (pending_walked no_database (upto low log) t a k)
       either (inr r) = never r.0 (within r.0 (has-take n rest r.0 r.1)).0 r.2
+
       by_test : (x : Bool) → has_change a ((walked (walked no_database (upto low log)) (take n rest)).pending t) ≡ x → x ≡ false
       by_test true e = absurd (either (pending_walked (walked no_database (upto low log)) (take n rest) t a e))
       by_test false e = refl
@@ -182,6 +188,7 @@ same_row log frontier is a low high l none =
         by_test : (b : Bool) → nat_le e.scn low ≡ b → AllByRecursion (λ (x : LogEntry). x.scn ≤ high) (upto low es) → AllByRecursion (λ (x : LogEntry). x.scn ≤ high) (cond b (e ∷ upto low es) (upto low es))
         by_test true t ih = let u : e.scn ≤ low = leb-true e.scn low t in (omega arith, ih)
         by_test false t ih = ih
+
     within : (more : List LogEntry) → log ≡ upto low log ++ more → AllByRecursion (λ (x : LogEntry). low < x.scn) more → (x : LogEntry) → Has (upto high more) x → Has log x × (low < x.scn) × (x.scn ≤ high)
     within more e above x h =
         let f = has-filter_back (λ (y : LogEntry). nat_le y.scn high) more x h in

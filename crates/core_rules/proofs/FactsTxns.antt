@@ -1,17 +1,17 @@
 -- The transactions of a log: each begins and ends at most once, begins before it touches and before it ends, and
 -- touches before it ends.
-use Rattle.std.proofs.Common.{◌≡◌, ℕ, zero, suc, ◌+◌, ◌<◌, ◌≤◌, Bool, true, false, cond, not, List, [], ◌∷◌, ◌++◌, take, Option, Some, None, ◌⊎◌, inl, inr, refl, sym, ap, ◌∙◌, subst, arith, true≢false}
-use Rattle.std.specs.Prelude.{◌==◌, ◌&&◌}
+use Rattle.std.proofs.Common.{◌≡◌, ℕ, zero, suc, ◌<◌, ◌≤◌, Bool, true, false, cond, not, List, [], ◌∷◌, take, Option, Some, None, ◌⊎◌, inl, inr, refl, sym, ap, subst, arith, true≢false}
+use Rattle.std.specs.Prelude.{◌==◌}
 use Rattle.std.specs.List.{Contains}
-use Rattle.std.proofs.lemmas.Bool.{eqb-true, eq-eqb, eqb-false, and_parts, ltb-true}
+use Rattle.std.proofs.lemmas.Bool.{eqb-true, eq-eqb, and_parts}
 use Rattle.adg_base.specs.Address.{Place}
 use Rattle.adg_base.specs.declared.vector.Vector.{Vector}
 use Rattle.adg_base.specs.declared.vector.Vector.TheVariants.{Begin, Put, Delete, Undo, Commit, Abort, Create, DropObject, AddColumn, NoInMemory, EndThread}
 use Rattle.adg_base.specs.declared.log.LogEntry.{LogEntry}
 use Rattle.adg_model.specs.declared.fault.CheckKind.{CheckKind}
 use Rattle.adg_model.specs.declared.fault.CheckKind.TheVariants.{TxnTwice, TxnUnknown}
-use Rattle.adg_model.specs.Database.{Database, Table, no_database, set_at, after, walked, place, touched_by}
-use Rattle.adg_model.specs.Sound.{SoundFrom, IsSound, demand, is_running, refusal, on_table, has_address}
+use Rattle.adg_model.specs.Database.{Database, no_database, set_at, after, walked, place, touched_by}
+use Rattle.adg_model.specs.Sound.{SoundFrom, demand, is_running, refusal}
 use Rattle.core_rules.specs.Share.{begins, ends}
 use Rattle.core_rules.specs.State.{At}
 use Rattle.core_rules.specs.LogFacts.{IsLog}
@@ -133,6 +133,7 @@ begun_by db (x ∷ xs) t h = either (begun_by (after db x.vector) xs t h)
     now : (db.begun t ≡ true) ⊎ (begins t x.vector ≡ true) → (db.begun t ≡ true) ⊎ ((n : ℕ) × (e : LogEntry) × At (x ∷ xs) n e × (begins t e.vector ≡ true))
     now (inl k) = inl k
     now (inr k) = inr (0, x, refl, k)
+
     either : ((after db x.vector).begun t ≡ true) ⊎ ((n : ℕ) × (e : LogEntry) × At xs n e × (begins t e.vector ≡ true))
         → (db.begun t ≡ true) ⊎ ((n : ℕ) × (e : LogEntry) × At (x ∷ xs) n e × (begins t e.vector ≡ true))
     either (inl k) = now (begun_only db x.vector t k)

@@ -1,33 +1,24 @@
 -- To receive redo keeps the invariant: no part reads the log above the old frontier.
-use Rattle.std.proofs.Common.{◌≡◌, ℕ, ◌+◌, ◌*◌, ◌<◌, ◌≤◌, Bool, true, false, List, [], ◌∷◌, ◌++◌, map, filter, length, take, drop, Option, Some, None, ◌⊎◌, inl, inr, refl, sym, ap, ap₂, ◌∙◌, subst, arith, true≢false, IsPermutation}
-use Rattle.std.specs.Prelude.{nat_lt, nat_le}
-use Rattle.std.specs.List.{Contains, AllByRecursion, flat_map, range_with_len}
-use Rattle.std.proofs.lemmas.Bool.{ltb-true, leb-true, and_parts, eq-eqb}
-use Rattle.std.proofs.lemmas.List.{length-append, drop-append-le}
+use Rattle.std.proofs.Common.{◌≡◌, ℕ, ◌+◌, ◌*◌, ◌<◌, ◌≤◌, true, List, ◌++◌, length, Option, inl, inr, refl, sym, ap, ◌∙◌, subst, arith, IsPermutation}
+use Rattle.std.specs.List.{flat_map}
+use Rattle.std.proofs.lemmas.Bool.{eq-eqb}
+use Rattle.std.proofs.lemmas.List.{length-append}
 use Rattle.adg_base.specs.Address.{Place}
-use Rattle.adg_base.specs.Area.{HoldsPlace, HoldsBegin}
-use Rattle.adg_base.specs.Shard.{shard_of_unit, shard_of_vector}
 use Rattle.adg_base.specs.declared.log.LogEntry.{LogEntry}
-use Rattle.adg_base.specs.declared.node.Node.{Node}
-use Rattle.adg_base.specs.declared.node.DdlNode.{DdlNode}
-use Rattle.adg_model.specs.declared.mined.Mined.TheVariants as mined
-use Rattle.adg_model.specs.Database.{Rows, Table, rows_at, table_at, touched_by, touched}
+use Rattle.adg_model.specs.Database.{Rows, Table, rows_at, table_at, touched_by}
 use Rattle.adg_model.specs.Sound.{IsContinuation}
-use Rattle.adg_model.specs.Mined.{mined_of, node_item, ddl_item}
-use Rattle.core_rules.specs.Share.{is_shared_by, share, shares, ends, begun_above, node_of, nodes_of, ddl_of, ddl_in, NotedIn, EndedWithin, CommitsAt, NotRedefined}
-use Rattle.core_rules.specs.State.{CoreState, Worker, ColumnUnit, Population, Scan, Populating, Scanning, Link, Claimed, Collected, At, share_of, limit, has_txn, HasCollected}
+use Rattle.core_rules.specs.Share.{ends, EndedWithin, CommitsAt, NotRedefined}
+use Rattle.core_rules.specs.State.{CoreState, ColumnUnit, Population, Scan, limit}
 use Rattle.core_rules.specs.Applying.{Receives}
 use Rattle.core_rules.specs.Extents.{extent_rows, rows_of_blocks, without_places}
-use Rattle.core_rules.specs.LogFacts.{IsLog, LogFacts, LogHasFacts}
-use Rattle.core_rules.specs.Parts.{CountsAre, AppliedAre, AreaIs, IsGone, PartitionIs, DdlIs, mined_from, is_within, flush_nodes, flush_ddl, flush_items, ItemsAre, items_of, NotedBelow, CollectedAre, AllCollected}
-use Rattle.core_rules.specs.UnitParts.{ColumnsAre, Counts, IsCovered, UnitIsBuilt, UnitIs, TouchedWithin, CoarseWithin, PopulationIs, ScanIs}
-use Rattle.core_rules.specs.Invariant.{Invariant, Precise, WorkerIs, mined_of_all, unit_place}
+use Rattle.core_rules.specs.LogFacts.{LogHasFacts}
+use Rattle.core_rules.specs.Parts.{DdlIs, items_of}
+use Rattle.core_rules.specs.UnitParts.{ColumnsAre, Counts, IsCovered, UnitIs, TouchedWithin, CoarseWithin, PopulationIs, ScanIs}
+use Rattle.core_rules.specs.Invariant.{Invariant, Precise, unit_place}
 use Rattle.core_rules.proofs.Keeps.{Keeps, KeepsPrecise}
-use Rattle.core_rules.proofs.Lists.{Has, has, has-take, has-filter_back, contains, contains-take, contains-filter_map, contains-filter_map_back, has-append_left, at-map_back, each-append, each-from_has}
-use Rattle.core_rules.proofs.Shares.{share-log, share-own, share-contains, node-is, note-touches}
+use Rattle.core_rules.proofs.Lists.{contains-filter_map, contains-filter_map_back}
 use Rattle.core_rules.proofs.Items.{items_end}
-use Rattle.core_rules.proofs.MinedEntry.{ddl_scn}
-use Rattle.core_rules.proofs.Continued.{log_continued, new_above, new_is_above, stays_within, was_within, tables_stay, rows_stay, mined_stays, share_grows, take_stays, mined_from_stays, kept_of_shares, touch_was, touches_stay, node_stays, nodes_stay, commit_was}
+use Rattle.core_rules.proofs.Continued.{tables_stay, rows_stay, touches_stay, commit_was}
 use Rattle.core_rules.proofs.ReceivedParts.{with_log, whole_is, whole_facts, query_received, within_old, within_new, worker_then, same_mined_of_all, same_items, collected_then}
 
 module _ (facts : LogHasFacts) (c : CoreState) (entries : List LogEntry) (frontier : ℕ) (more : IsContinuation c.log c.frontier entries frontier) (v : Invariant c) where
@@ -55,12 +46,16 @@ module _ (facts : LogHasFacts) (c : CoreState) (entries : List LogEntry) (fronti
     where
       reached : u.snapshot ≤ c.frontier
       reached = let s : u.snapshot ≤ c.query = h.snapshot in let q : c.query ≤ c.frontier = query_received facts c entries frontier more v in omega arith
+
       tables : table_at whole u.snapshot ≡ table_at c.log u.snapshot
       tables = tables_stay c.log entries c.frontier frontier v.log more u.snapshot reached
+
       rows : rows_at whole u.snapshot ≡ rows_at c.log u.snapshot
       rows = rows_stay c.log entries c.frontier frontier v.log more u.snapshot reached
+
       commit_ends : (log : List LogEntry) (t scn : ℕ) (k : CommitsAt log t scn) → ends t k.entry.vector ≡ true
       commit_ends log t scn k = subst (λ x. ends t x ≡ true) (sym k.commits) (eq-eqb t t refl)
+
       counted : (t scn : ℕ) → CommitsAt whole t scn → Counts c.query c.links place t scn → CommitsAt c.log t scn
       counted t scn k (inl upto) =
           let at : k.entry.scn ≡ scn = k.at in
@@ -69,6 +64,7 @@ module _ (facts : LogHasFacts) (c : CoreState) (entries : List LogEntry) (fronti
       counted t scn k (inr p) =
           let ended : EndedWithin c.log c.query (limit c) t = items_end c v p.number p.link t p.found p.of in
           commit_was c.log entries c.frontier frontier v.log more (whole_facts facts c entries frontier more v) t scn ended.entry ended.within ended.end k
+
       covered_then : (t scn : ℕ) → CommitsAt c.log t scn → u.snapshot < scn → Counts c.query c.links place t scn → NotRedefined whole obj u.snapshot scn → IsCovered whole t obj extent u
       covered_then t scn k above counts same = either (h.covered t scn k above counts (λ e w. same e (within_new facts c entries frontier more v e w)))
         where
@@ -115,17 +111,17 @@ module _ (facts : LogHasFacts) (c : CoreState) (entries : List LogEntry) (fronti
       restarted = v.numbers.restarted;
       published = v.numbers.published;
       cut =
-        let cut : limit c ≤ c.frontier = v.numbers.cut in
-        let forward : c.frontier ≤ frontier = more.forward in
-        omega arith;
+          let cut : limit c ≤ c.frontier = v.numbers.cut in
+          let forward : c.frontier ≤ frontier = more.forward in
+          omega arith;
     };
     quiesce = v.quiesce;
     shards = record {
       count = v.shards.count;
       within = λ n s h.
-        let upto : s.applied ≤ length c.log = v.shards.within n s h in
-        let longer : length whole ≡ length c.log + length entries = length-append c.log entries in
-        omega arith;
+          let upto : s.applied ≤ length c.log = v.shards.within n s h in
+          let longer : length whole ≡ length c.log + length entries = length-append c.log entries in
+          omega arith;
       floor = v.shards.floor;
     };
     manned = v.manned;
@@ -163,6 +159,7 @@ module _ (facts : LogHasFacts) (c : CoreState) (entries : List LogEntry) (fronti
             upto = r.upto;
             touches = contains-filter_map (λ (x : LogEntry). touched_by r.txn x.vector) whole t.0 a (within_new facts c entries frontier more v t.0 t.1) t.2;
           }
+
       coarse_then : CoarseWithin c.log c.born u.snapshot (limit c) → CoarseWithin whole c.born u.snapshot (limit c)
       coarse_then r = record {
         txn = r.txn;

@@ -1,33 +1,26 @@
 -- What no part of the workers and of the flush sees of redo that is received: it lies above the old frontier.
-use Rattle.std.proofs.Common.{◌≡◌, ℕ, ◌+◌, ◌*◌, ◌<◌, ◌≤◌, Bool, true, false, List, [], ◌∷◌, ◌++◌, map, filter, length, take, drop, Option, Some, None, ◌⊎◌, inl, inr, refl, sym, ap, ap₂, ◌∙◌, subst, arith, true≢false, IsPermutation}
+use Rattle.std.proofs.Common.{◌≡◌, ℕ, ◌+◌, ◌<◌, ◌≤◌, Bool, true, false, List, ◌++◌, map, filter, length, take, drop, inl, inr, refl, sym, ap, ap₂, ◌∙◌, subst, arith}
 use Rattle.std.specs.Prelude.{nat_lt, nat_le}
-use Rattle.std.specs.List.{Contains, AllByRecursion, flat_map, range_with_len}
-use Rattle.std.proofs.lemmas.Bool.{ltb-true, leb-true, and_parts, eq-eqb}
+use Rattle.std.specs.List.{Contains, AllByRecursion, range_with_len}
+use Rattle.std.proofs.lemmas.Bool.{leb-true, and_parts}
 use Rattle.std.proofs.lemmas.List.{length-append, drop-append-le}
 use Rattle.adg_base.specs.Address.{Place}
-use Rattle.adg_base.specs.Area.{HoldsPlace, HoldsBegin}
-use Rattle.adg_base.specs.Shard.{shard_of_unit, shard_of_vector}
+use Rattle.adg_base.specs.Shard.{shard_of_vector}
 use Rattle.adg_base.specs.declared.log.LogEntry.{LogEntry}
 use Rattle.adg_base.specs.declared.node.Node.{Node}
 use Rattle.adg_base.specs.declared.node.DdlNode.{DdlNode}
-use Rattle.adg_model.specs.declared.mined.Mined.TheVariants as mined
-use Rattle.adg_model.specs.Database.{Rows, Table, rows_at, table_at, touched_by, touched}
 use Rattle.adg_model.specs.Sound.{IsContinuation}
 use Rattle.adg_model.specs.Mined.{mined_of, node_item, ddl_item}
-use Rattle.core_rules.specs.Share.{is_shared_by, share, shares, ends, begun_above, node_of, nodes_of, ddl_of, ddl_in, NotedIn, EndedWithin, CommitsAt, NotRedefined}
-use Rattle.core_rules.specs.State.{CoreState, Worker, ColumnUnit, Population, Scan, Populating, Scanning, Link, Claimed, Collected, At, share_of, limit, has_txn, HasCollected}
-use Rattle.core_rules.specs.Applying.{Receives}
-use Rattle.core_rules.specs.Extents.{extent_rows, rows_of_blocks, without_places}
+use Rattle.core_rules.specs.Share.{is_shared_by, share, shares, begun_above, node_of, ddl_of, NotedIn, EndedWithin}
+use Rattle.core_rules.specs.State.{CoreState, Worker, At, share_of, limit, has_txn}
 use Rattle.core_rules.specs.LogFacts.{IsLog, LogFacts, LogHasFacts}
-use Rattle.core_rules.specs.Parts.{CountsAre, AppliedAre, AreaIs, IsGone, PartitionIs, DdlIs, mined_from, is_within, flush_nodes, flush_ddl, flush_items, ItemsAre, items_of, NotedBelow, CollectedAre, AllCollected}
-use Rattle.core_rules.specs.UnitParts.{ColumnsAre, Counts, IsCovered, UnitIsBuilt, UnitIs, TouchedWithin, CoarseWithin, PopulationIs, ScanIs}
-use Rattle.core_rules.specs.Invariant.{Invariant, Precise, WorkerIs, mined_of_all, unit_place}
-use Rattle.core_rules.proofs.Keeps.{Keeps, KeepsPrecise}
-use Rattle.core_rules.proofs.Lists.{Has, has, has-take, has-filter_back, contains, contains-take, contains-filter_map, contains-filter_map_back, has-append_left, at-map_back, each-append, each-from_has}
+use Rattle.core_rules.specs.Parts.{CountsAre, AppliedAre, AreaIs, IsGone, PartitionIs, is_within, flush_nodes, flush_ddl, flush_items, NotedBelow, CollectedAre, AllCollected}
+use Rattle.core_rules.specs.Invariant.{Invariant, WorkerIs, mined_of_all}
+use Rattle.core_rules.proofs.Lists.{Has, has, has-filter_back, contains, contains-take, at-map_back, each-append, each-from_has}
 use Rattle.core_rules.proofs.Shares.{share-log, share-own, share-contains, node-is, note-touches}
 use Rattle.core_rules.proofs.Items.{items_end}
 use Rattle.core_rules.proofs.MinedEntry.{ddl_scn}
-use Rattle.core_rules.proofs.Continued.{log_continued, new_above, new_is_above, stays_within, was_within, tables_stay, rows_stay, mined_stays, share_grows, take_stays, mined_from_stays, kept_of_shares, touch_was, touches_stay, node_stays, nodes_stay, commit_was}
+use Rattle.core_rules.proofs.Continued.{log_continued, new_is_above, stays_within, was_within, mined_stays, share_grows, take_stays, mined_from_stays, kept_of_shares, touch_was, node_stays, nodes_stay}
 
 -- nothing above an SCN lies within it
 above_not_within : (low high scn : ℕ) → high < scn → is_within low high scn ≡ false
@@ -118,7 +111,7 @@ module _ (facts : LogHasFacts) (c : CoreState) (entries : List LogEntry) (fronti
             → AllByRecursion (λ (e : LogEntry). w.progress < e.scn) (share workers worker xs)
         fresh_above workers xs l h =
             each-from_has (λ (e : LogEntry). w.progress < e.scn) (share workers worker xs)
-              (λ e k. let above : c.frontier < e.scn = h e (has-filter_back (λ (x : LogEntry). is_shared_by workers worker (shard_of_vector x.vector)) xs e k).0 in omega arith)
+            (λ e k. let above : c.frontier < e.scn = h e (has-filter_back (λ (x : LogEntry). is_shared_by workers worker (shard_of_vector x.vector)) xs e k).0 in omega arith)
 
     area_then : AreaIs whole c.born c.query c.links worker mined_then w.area
     area_then = record {
@@ -132,6 +125,7 @@ module _ (facts : LogHasFacts) (c : CoreState) (entries : List LogEntry) (fronti
       where
         noted_then : (t : ℕ) (a : Place) → NotedIn c.log c.born mined_then t a → NotedIn whole c.born mined_then t a
         noted_then t a r = record { entry = r.entry; within = r.within; above = r.above; notes = same_note r.entry (of_log r.entry r.within) ∙ r.notes }
+
         noted_was : (t : ℕ) (a : Place) → NotedIn whole c.born mined_then t a → NotedIn c.log c.born mined_then t a
         noted_was t a r = record { entry = r.entry; within = r.within; above = r.above; notes = sym (same_note r.entry (of_log r.entry r.within)) ∙ r.notes }
 
@@ -146,9 +140,9 @@ module _ (facts : LogHasFacts) (c : CoreState) (entries : List LogEntry) (fronti
       progress = record {
         reached = was.progress.reached;
         received =
-          let upto : w.progress ≤ c.frontier = was.progress.received in
-          let forward : c.frontier ≤ frontier = more.forward in
-          omega arith;
+            let upto : w.progress ≤ c.frontier = was.progress.received in
+            let forward : c.frontier ≤ frontier = more.forward in
+            omega arith;
       };
       applied = subst (λ (es : List LogEntry). AppliedAre es c.shards) (sym (same w.applied was.counts.within)) was.applied;
       area = subst (λ (es : List LogEntry). AreaIs whole c.born c.query c.links worker es w.area) (sym (same w.mined mined_within)) area_then;
@@ -177,15 +171,17 @@ module _ (facts : LogHasFacts) (c : CoreState) (entries : List LogEntry) (fronti
           let above : c.frontier < e.scn = new_is_above c.log entries c.frontier frontier v.log more e h in
           let cut : limit c ≤ c.frontier = v.numbers.cut in
           above_not_within c.query (limit c) scn (omega arith)
+
       nodes : flush_nodes whole c.born c.query (limit c) (shares (length c.workers) whole) ≡ flush_nodes c.log c.born c.query (limit c) (shares (length c.workers) c.log)
       nodes = kept_of_shares c.log entries c.frontier frontier v.log more (λ (n : Node). is_within c.query (limit c) n.scn) (node_of (begun_above whole c.born)) (node_of (begun_above c.log c.born))
-        (node_stays c.log entries c.frontier frontier v.log more whole_facts c.born)
-        (λ e n h k. fresh e n.scn h (node-is (begun_above whole c.born) e n k).scn)
-        (length c.workers) (range_with_len 0 (length c.workers))
+          (node_stays c.log entries c.frontier frontier v.log more whole_facts c.born)
+          (λ e n h k. fresh e n.scn h (node-is (begun_above whole c.born) e n k).scn)
+          (length c.workers) (range_with_len 0 (length c.workers))
+
       changes : flush_ddl c.query (limit c) (shares (length c.workers) whole) ≡ flush_ddl c.query (limit c) (shares (length c.workers) c.log)
       changes = kept_of_shares c.log entries c.frontier frontier v.log more (λ (d : DdlNode). is_within c.query (limit c) d.scn) ddl_of ddl_of (λ e h. refl)
-        (λ e d h k. fresh e d.scn h (ddl_scn e d k))
-        (length c.workers) (range_with_len 0 (length c.workers))
+          (λ e d h k. fresh e d.scn h (ddl_scn e d k))
+          (length c.workers) (range_with_len 0 (length c.workers))
 
   pub collected_then : AllCollected whole c.born (length c.workers) c.links
   collected_then n l actor cursor collected h stage = record {
@@ -196,6 +192,7 @@ module _ (facts : LogHasFacts) (c : CoreState) (entries : List LogEntry) (fronti
     where
       old : CollectedAre c.log c.born (length c.workers) l.items cursor collected
       old = v.flush.collected n l actor cursor collected h stage
+
       noted_then : (t : ℕ) (a : Place) → NotedBelow c.log c.born (length c.workers) cursor t a → NotedBelow whole c.born (length c.workers) cursor t a
       noted_then t a r =
           let e = r.noted.entry in
@@ -211,6 +208,7 @@ module _ (facts : LogHasFacts) (c : CoreState) (entries : List LogEntry) (fronti
               notes = same_note e there ∙ r.noted.notes;
             };
           }
+
       noted_was : (t : ℕ) (a : Place) → has_txn t l.items ≡ true → NotedBelow whole c.born (length c.workers) cursor t a → NotedBelow c.log c.born (length c.workers) cursor t a
       noted_was t a k r =
           let e = r.noted.entry in
