@@ -1,5 +1,6 @@
 -- A log with entries that continue it: what was there stays as it is, at every SCN up to the old frontier.
 use Rattle.std.proofs.Common.{◌≡◌, ℕ, suc, ◌+◌, ◌<◌, ◌≤◌, Bool, true, false, cond, List, [], ◌∷◌, ◌++◌, filter, length, take, Option, Some, None, ◌⊎◌, inl, inr, refl, sym, ap, ap₂, ◌∙◌, subst, arith, append-nil}
+use Rattle.std.specs.Cmp.{both_ways}
 use Rattle.std.specs.List.{Contains, AllByRecursion, filter_map, flat_map, cons_option}
 use Rattle.std.proofs.lemmas.Bool.{eq-eqb}
 use Rattle.std.proofs.lemmas.List.{take-append-le}
@@ -26,12 +27,7 @@ use Rattle.core_rules.proofs.Shares.{begun-entry, entry-begun}
 use Rattle.core_rules.proofs.Restarted.{filter-none}
 use Rattle.core_rules.proofs.FactsOrder.{scns_above, scns_append, received}
 
--- two tests that hold together, and maps that agree
-same_tests : (a b : Bool) → (a ≡ true → b ≡ true) → (b ≡ true → a ≡ true) → a ≡ b
-same_tests true b h k = sym (h refl)
-same_tests false true h k = k refl
-same_tests false false h k = refl
-
+-- maps that agree
 same_filter_map : {X Y : Type 0} (f g : X → Option Y) (xs : List X) → ((x : X) → Has xs x → f x ≡ g x) → filter_map f xs ≡ filter_map g xs
 same_filter_map f g [] h = refl
 same_filter_map f g (x ∷ xs) h = ap₂ cons_option (h x (inl refl)) (same_filter_map f g xs (λ y k. h y (inr k)))
@@ -173,7 +169,7 @@ module _ (log entries : List LogEntry) (old new : ℕ) (is : IsLog log old) (mor
         contains-filter_map (λ (x : LogEntry). touched_by t x.vector) log r.0 a (touch_was t a r.0 e r.1 r.2 w u) r.2
 
     pub begun_stays : (scn t : ℕ) (e : LogEntry) → Contains log e → ends t e.vector ≡ true → begun_above (log ++ entries) scn t ≡ begun_above log scn t
-    begun_stays scn t e w u = same_tests (begun_above (log ++ entries) scn t) (begun_above log scn t) back forth
+    begun_stays scn t e w u = both_ways (begun_above (log ++ entries) scn t) (begun_above log scn t) back forth
       where
         back : begun_above (log ++ entries) scn t ≡ true → begun_above log scn t ≡ true
         back h =

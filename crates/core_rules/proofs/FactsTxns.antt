@@ -3,7 +3,7 @@
 use Rattle.std.proofs.Common.{◌≡◌, ℕ, zero, suc, ◌<◌, ◌≤◌, Bool, true, false, cond, not, List, [], ◌∷◌, take, Option, Some, None, ◌⊎◌, inl, inr, refl, sym, ap, subst, arith, true≢false}
 use Rattle.std.specs.Prelude.{◌==◌}
 use Rattle.std.specs.List.{Contains}
-use Rattle.std.proofs.lemmas.Bool.{eqb-true, eq-eqb, and_parts}
+use Rattle.std.proofs.lemmas.Bool.{cases_order, eqb-true, eq-eqb, and_parts}
 use Rattle.adg_base.specs.Address.{Place}
 use Rattle.adg_base.specs.declared.vector.Vector.{Vector}
 use Rattle.adg_base.specs.declared.vector.Vector.TheVariants.{Begin, Put, Delete, Undo, Commit, Abort, Create, DropObject, AddColumn, NoInMemory, EndThread}
@@ -219,18 +219,6 @@ touch_no_end t a (AddColumn o x) h k = true≢false (sym k)
 touch_no_end t a (NoInMemory o) h k = true≢false (sym k)
 touch_no_end t a EndThread h k = true≢false (sym k)
 
--- of two places, one is before the other, or they are one
-pub places_differ : (i j : ℕ) → (i < j) ⊎ ((i ≡ j) ⊎ (j < i))
-places_differ zero zero = inr (inl refl)
-places_differ zero (suc j) = inl (omega arith)
-places_differ (suc i) zero = inr (inr (omega arith))
-places_differ (suc i) (suc j) = later (places_differ i j)
-  where
-    later : (i < j) ⊎ ((i ≡ j) ⊎ (j < i)) → (suc i < suc j) ⊎ ((suc i ≡ suc j) ⊎ (suc j < suc i))
-    later (inl l) = inl (omega arith)
-    later (inr (inl e)) = inr (inl (ap suc e))
-    later (inr (inr l)) = inr (inr (omega arith))
-
 -- of a log: entries at two places
 module _ (log : List LogEntry) (frontier : ℕ) (is : IsLog log frontier) where
   -- what an entry finds
@@ -271,22 +259,22 @@ module _ (log : List LogEntry) (frontier : ℕ) (is : IsLog log frontier) where
   begun_once t e f a b h k =
       let p = contains-at log e a in
       let q = contains-at log f b in
-      either p.0 q.0 p.1 q.1 (places_differ p.0 q.0)
+      either p.0 q.0 p.1 q.1 (cases_order p.0 q.0)
     where
-      either : (i j : ℕ) → At log i e → At log j f → (i < j) ⊎ ((i ≡ j) ⊎ (j < i)) → e ≡ f
-      either i j a b (inl l) = absurd (begin_twice t i j e f a b h k l)
-      either i j a b (inr (inl same)) = at-same log j e f (subst (λ n. At log n e) same a) b
+      either : (i j : ℕ) → At log i e → At log j f → (i ≡ j) ⊎ ((i < j) ⊎ (j < i)) → e ≡ f
+      either i j a b (inr (inl l)) = absurd (begin_twice t i j e f a b h k l)
+      either i j a b (inl same) = at-same log j e f (subst (λ n. At log n e) same a) b
       either i j a b (inr (inr l)) = absurd (begin_twice t j i f e b a k h l)
 
   pub ended_once : (t : ℕ) (e f : LogEntry) → Contains log e → Contains log f → ends t e.vector ≡ true → ends t f.vector ≡ true → e ≡ f
   ended_once t e f a b h k =
       let p = contains-at log e a in
       let q = contains-at log f b in
-      either p.0 q.0 p.1 q.1 (places_differ p.0 q.0)
+      either p.0 q.0 p.1 q.1 (cases_order p.0 q.0)
     where
-      either : (i j : ℕ) → At log i e → At log j f → (i < j) ⊎ ((i ≡ j) ⊎ (j < i)) → e ≡ f
-      either i j a b (inl l) = absurd (ended_runs t i j e a h l (end_runs t j f b k))
-      either i j a b (inr (inl same)) = at-same log j e f (subst (λ n. At log n e) same a) b
+      either : (i j : ℕ) → At log i e → At log j f → (i ≡ j) ⊎ ((i < j) ⊎ (j < i)) → e ≡ f
+      either i j a b (inr (inl l)) = absurd (ended_runs t i j e a h l (end_runs t j f b k))
+      either i j a b (inl same) = at-same log j e f (subst (λ n. At log n e) same a) b
       either i j a b (inr (inr l)) = absurd (ended_runs t j i f b k l (end_runs t i e a h))
 
   pub begun_to_touch : (t : ℕ) (a : Place) (e : LogEntry) → Contains log e → touched_by t e.vector ≡ Some a
@@ -302,14 +290,14 @@ module _ (log : List LogEntry) (frontier : ℕ) (is : IsLog log frontier) where
   touched_to_end t a e f g h k u =
       let p = contains-at log e g in
       let q = contains-at log f h in
-      either p.0 q.0 p.1 q.1 (places_differ p.0 q.0)
+      either p.0 q.0 p.1 q.1 (cases_order p.0 q.0)
     where
-      either : (i j : ℕ) → At log i e → At log j f → (i < j) ⊎ ((i ≡ j) ⊎ (j < i)) → (e.pos < f.pos) × (e.scn ≤ f.scn)
-      either i j x y (inl l) =
+      either : (i j : ℕ) → At log i e → At log j f → (i ≡ j) ⊎ ((i < j) ⊎ (j < i)) → (e.pos < f.pos) × (e.scn ≤ f.scn)
+      either i j x y (inr (inl l)) =
           let first : e.pos ≡ i = positions log frontier is i e x in
           let second : f.pos ≡ j = positions log frontier is j f y in
           (omega arith, rises log frontier is i j e f (omega arith) x y)
-      either i j x y (inr (inl same)) =
+      either i j x y (inl same) =
           let one : e ≡ f = at-same log j e f (subst (λ n. At log n e) same x) y in
           absurd (touch_no_end t a f.vector (subst (λ (z : LogEntry). touched_by t z.vector ≡ Some a) one k) u)
       either i j x y (inr (inr l)) = absurd (ended_runs t j i f y u l (touch_runs t a i e x k))
