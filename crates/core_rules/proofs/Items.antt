@@ -24,7 +24,7 @@ use Rattle.core_rules.proofs.Shares.{shares-has, shares-log, end-shard, redefine
 use Rattle.core_rules.proofs.Keeps.{CutCommit, HasItem, ItemsEnd, ChangesCommit, CoarsesCommit, EndsHaveItems, CommitsHaveItems, RedefinitionsHaveItems, MinedBelow, NextIsAbove}
 
 -- what the item of a node is
-item_of_node : (t : ℕ) (n : Node) → is_item_of t (node_item n) ≡ true → n.txn ≡ t
+pub item_of_node : (t : ℕ) (n : Node) → is_item_of t (node_item n) ≡ true → n.txn ≡ t
 item_of_node t n h = by_kind n.complete n.kind h
   where
     by_kind : (c : Bool) (k : NodeKind) → is_item_of t (end_item c n.txn k) ≡ true → n.txn ≡ t

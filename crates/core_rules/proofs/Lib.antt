@@ -20,3 +20,13 @@ pub mod Facts
 pub mod Continued
 pub mod ReceivedParts
 pub mod Received
+pub mod Staged
+pub mod Permuted
+pub mod Claimed
+pub mod Collecting
+pub mod Once
+pub mod Begun
+pub mod BegunFlush
+pub mod Published
+pub mod Ending
+pub mod ExactWorkers
