@@ -13,6 +13,13 @@ pub mod UnitsTouched
 pub mod UnitsPublished
 pub mod PreciseMarks
 pub mod FlushLaw
+pub mod FactsOrder
+pub mod FactsTxns
+pub mod FactsRows
+pub mod Facts
+pub mod Continued
+pub mod ReceivedParts
+pub mod Received
 pub mod Staged
 pub mod Permuted
 pub mod Claimed
