@@ -32,3 +32,4 @@ pub mod Ending
 pub mod ExactWorkers
 pub mod ExactFlush
 pub mod ExactTouch
+pub mod CodeLaws

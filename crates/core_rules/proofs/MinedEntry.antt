@@ -156,7 +156,7 @@ pub record IsNextMined (c : CoreState) (worker : ℕ) (w : Worker) (e : LogEntry
   pub own : is_shared_by (length c.workers) worker (shard_of_vector e.vector) ≡ true
   pub above : limit c < e.scn
 
-next_mined : (c : CoreState) → Invariant c → (worker : ℕ) (w : Worker) (e : LogEntry) → At c.workers worker w → At (share_of c worker) w.mined e → IsNextMined c worker w e
+pub next_mined : (c : CoreState) → Invariant c → (worker : ℕ) (w : Worker) (e : LogEntry) → At c.workers worker w → At (share_of c worker) w.mined e → IsNextMined c worker w e
 next_mined c v worker w e h k =
     let there = at-contains (share_of c worker) w.mined e k in
     record {
@@ -243,7 +243,7 @@ begin_is_mined c facts v worker w e n t b h k u = by_place (cases_order at.0 w.m
     by_place (inr (inr l)) = absurd (not_later l)
 
 -- So the mark of the area tells whether all changes of a transaction that ends next were noted.
-mark_tells : (c : CoreState) → LogHasFacts → Invariant c → (worker : ℕ) (w : Worker) (e : LogEntry) → IsNextMined c worker w e → (t : ℕ)
+pub mark_tells : (c : CoreState) → LogHasFacts → Invariant c → (worker : ℕ) (w : Worker) (e : LogEntry) → IsNextMined c worker w e → (t : ℕ)
     → ends t e.vector ≡ true → holds_begin w.area t ≡ begun_above c.log c.born t
 mark_tells c facts v worker w e n t h = same_tests (holds_begin w.area t) (begun_above c.log c.born t) noted begun
   where

@@ -3,6 +3,7 @@ use Rattle.std.specs.Prelude.{◌≡◌, ℕ, ◌+◌, ◌*◌, ◌<◌, ◌≤�
 use Rattle.std.specs.List.{Contains, AllByRecursion}
 use Rattle.adg_base.specs.Address.{Place}
 use Rattle.adg_base.specs.Area.{HoldsPlace, HoldsBegin}
+use Rattle.adg_base.specs.Shard.{shard_of_vector}
 use Rattle.adg_base.specs.declared.log.LogEntry.{LogEntry}
 use Rattle.adg_base.specs.declared.command.Command.TheVariants as command
 use Rattle.adg_base.specs.declared.answer.Reply.{Reply}
@@ -16,9 +17,9 @@ use Rattle.core_rules.specs.declared.event.Event.{Event}
 use Rattle.core_rules.specs.declared.event.Event.TheVariants as event
 use Rattle.core_rules.specs.declared.event.CoreAnswer.{CoreAnswer}
 use Rattle.core_rules.specs.declared.event.CoreAnswer.TheVariants.{NotReady, Moved, Said}
-use Rattle.core_rules.specs.Share.{CommitsAt}
+use Rattle.core_rules.specs.Share.{ends, begun_above, CommitsAt}
 use Rattle.core_rules.specs.Extents.{IsInExtent}
-use Rattle.core_rules.specs.State.{CoreState, Worker, ColumnUnit, Population, Scan, Session, Populating, Scanning, Idle, Flushing, At, is_unclaimed, is_finished}
+use Rattle.core_rules.specs.State.{CoreState, Worker, Shard, ColumnUnit, Population, Scan, Session, Populating, Scanning, Idle, Flushing, At, share_of, limit, is_unclaimed, is_finished, holds_begin}
 use Rattle.core_rules.specs.Applying.{Receives}
 use Rattle.core_rules.specs.Flush.{Publishes}
 use Rattle.core_rules.specs.Populations.{IsSession}
@@ -126,3 +127,24 @@ abbrev pub UnitsCover : Type 0
 UnitsCover =
     (c : CoreState) (obj extent scn : ℕ) (u : ColumnUnit) → Invariant c → c.units obj extent ≡ Some u → u.snapshot ≤ scn → scn ≤ c.query
     → Covers c.log obj extent scn u
+
+-- Every entry up to what is cut is applied: so the row store serves the QuerySCN, each snapshot and each scan's SCN.
+abbrev pub CutIsApplied : Type 0
+CutIsApplied =
+    (c : CoreState) (e : LogEntry) (n : ℕ) (s : Shard) → Invariant c → Contains c.log e → e.scn ≤ limit c → shard_of_vector e.vector ≡ Some n → At c.shards n s
+    → e.pos < s.applied
+
+-- A worker's next entry is the next one of its shard, or one that the shard has.
+abbrev pub NextClosesShard : Type 0
+NextClosesShard =
+    (c : CoreState) (worker : ℕ) (w : Worker) (e x : LogEntry) (n : ℕ) (s : Shard) → Invariant c → At c.workers worker w → At (share_of c worker) w.applied e
+    → shard_of_vector e.vector ≡ Some n → At c.shards n s → Contains c.log x → shard_of_vector x.vector ≡ Some n → x.pos < e.pos → x.pos < s.applied
+
+-- What a worker mines next lies above what is cut, and where it ends a transaction, the mark of the area tells whether
+-- the transaction began since the last restart.
+pub record NextMinedIs (c : CoreState) (w : Worker) (e : LogEntry) : Type 0 where
+  pub above : limit c < e.scn
+  pub complete : (t : ℕ) → ends t e.vector ≡ true → holds_begin w.area t ≡ begun_above c.log c.born t
+
+abbrev pub NextMinedIsOpen : Type 0
+NextMinedIsOpen = (c : CoreState) (worker : ℕ) (w : Worker) (e : LogEntry) → Invariant c → At c.workers worker w → At (share_of c worker) w.mined e → NextMinedIs c w e
