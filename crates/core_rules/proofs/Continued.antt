@@ -5,7 +5,7 @@ use Rattle.std.specs.List.{Contains, AllByRecursion, filter_map, flat_map, cons_
 use Rattle.std.proofs.lemmas.Bool.{eq-eqb}
 use Rattle.std.proofs.lemmas.List.{take-append-le}
 use Rattle.std.proofs.lemmas.List.Elements.{filter-append, filter_map-append}
-use Rattle.adg_base.specs.Address.{Place}
+use Rattle.adg_base.specs.Address.{Place, place}
 use Rattle.adg_base.specs.Shard.{shard_of_vector}
 use Rattle.adg_base.specs.declared.vector.Vector.{Vector}
 use Rattle.adg_base.specs.declared.vector.Vector.TheVariants.{Begin, Put, Delete, Undo, Commit, Abort, Create, DropObject, AddColumn, NoInMemory, EndThread}
@@ -13,10 +13,10 @@ use Rattle.adg_base.specs.declared.log.LogEntry.{LogEntry}
 use Rattle.adg_base.specs.declared.node.NodeKind.TheVariants as node
 use Rattle.adg_model.specs.declared.mined.Mined.TheVariants as mined
 use Rattle.adg_model.specs.Log.{numbered}
-use Rattle.adg_model.specs.Database.{Table, is_in_memory, place, rows_at, table_at, touched_by, touched}
+use Rattle.adg_model.specs.Database.{Table, is_in_memory, rows_at, table_at, touched_by, touched}
 use Rattle.adg_model.specs.Sound.{IsContinuation}
 use Rattle.adg_model.specs.Mined.{mined_of, mined_by}
-use Rattle.adg_model.proofs.LogLaws.{numbered-append}
+use Rattle.adg_model.proofs.LogLaws.{numbered_append}
 use Rattle.adg_model.proofs.RowLaws.{rows_stop_at_scn}
 use Rattle.core_rules.specs.Share.{is_shared_by, share, ends, begun_above, node_by, node_of, nodes_of, CommitsAt}
 use Rattle.core_rules.specs.State.{At}
@@ -71,7 +71,7 @@ module _ (log entries : List LogEntry) (old new : ℕ) (is : IsLog log old) (mor
     places =
         let here : 0 + length log ≡ length log = omega arith in
         let rest : numbered (0 + length log) entries ≡ entries = ap (λ (n : ℕ). numbered n entries) here ∙ more.places in
-        numbered-append 0 log entries ∙ ap₂ (λ xs ys. xs ++ ys) is.places rest;
+        numbered_append 0 log entries ∙ ap₂ (λ xs ys. xs ++ ys) is.places rest;
     scns = scns_append 1 old new log entries is.scns more.scns (omega arith) more.forward;
   }
 

@@ -3,14 +3,14 @@ use Rattle.std.proofs.Common.{◌≡◌, ℕ, suc, ◌<◌, ◌≤◌, Bool, tru
 use Rattle.std.specs.Prelude.{◌==◌, ◌||◌, nat_le}
 use Rattle.std.specs.List.{AllByRecursion}
 use Rattle.std.proofs.lemmas.Bool.{eqb-true, eq-eqb, leb-true, and_parts, or_parts}
-use Rattle.adg_base.specs.Address.{Place}
+use Rattle.adg_base.specs.Address.{Place, place}
 use Rattle.adg_base.specs.declared.vector.Vector.{Vector}
 use Rattle.adg_base.specs.declared.vector.Vector.TheVariants.{Begin, Put, Delete, Undo, Commit, Abort, Create, DropObject, AddColumn, NoInMemory, EndThread}
 use Rattle.adg_base.specs.declared.log.LogEntry.{LogEntry}
 use Rattle.adg_model.specs.Log.{upto}
-use Rattle.adg_model.specs.Database.{Rows, Change, Database, no_database, set_at, same_place, place, played, struck, has_change, after, walked, database, rows_at, touched_by, touched, commits}
-use Rattle.adg_model.proofs.LogLaws.{upto_all, upto-append, scns_split}
-use Rattle.adg_model.proofs.RowLaws.{walked-append}
+use Rattle.adg_model.specs.Database.{Rows, Change, Database, no_database, set_at, same_place, played, struck, has_change, after, walked, database, rows_at, touched_by, touched, commits}
+use Rattle.adg_model.proofs.LogLaws.{upto_all, upto_append, scns_split}
+use Rattle.adg_model.proofs.RowLaws.{walked_append}
 use Rattle.core_rules.specs.Share.{CommitsAt}
 use Rattle.core_rules.specs.State.{At}
 use Rattle.core_rules.specs.LogFacts.{IsLog, NotTouched}
@@ -174,10 +174,10 @@ unfolding database
 same_row log frontier is a low high l none =
     let split = scns_split low log (scns_rise 1 frontier log is.scns) in
     let rest = upto high split.0 in
-    let first : upto high log ≡ upto high (upto low log) ++ rest = ap (upto high) split.1 ∙ upto-append high (upto low log) split.0 in
+    let first : upto high log ≡ upto high (upto low log) ++ rest = ap (upto high) split.1 ∙ upto_append high (upto low log) split.0 in
     let whole : upto high (upto low log) ≡ upto low log = upto_all high (upto low log) (below low high log l) in
     let parts : upto high log ≡ upto low log ++ rest = first ∙ ap (λ (es : List LogEntry). es ++ rest) whole in
-    let walk : walked no_database (upto high log) ≡ walked (walked no_database (upto low log)) rest = ap (walked no_database) parts ∙ walked-append no_database (upto low log) rest in
+    let walk : walked no_database (upto high log) ≡ walked (walked no_database (upto low log)) rest = ap (walked no_database) parts ∙ walked_append no_database (upto low log) rest in
     let inside : (x : LogEntry) → Has rest x → Has log x × (low < x.scn) × (x.scn ≤ high) = within split.0 split.1 split.2 in
     ap (λ (db : Database). db.rows a) walk ∙ row_walked (walked no_database (upto low log)) rest a (λ n e t. untouched log a low high none rest n e t inside)
   where

@@ -4,13 +4,13 @@ use Rattle.std.proofs.Common.{◌≡◌, ℕ, zero, suc, ◌<◌, ◌≤◌, Boo
 use Rattle.std.specs.Prelude.{◌==◌}
 use Rattle.std.specs.List.{Contains}
 use Rattle.std.proofs.lemmas.Bool.{cases_order, eqb-true, eq-eqb, and_parts}
-use Rattle.adg_base.specs.Address.{Place}
+use Rattle.adg_base.specs.Address.{Place, place}
 use Rattle.adg_base.specs.declared.vector.Vector.{Vector}
 use Rattle.adg_base.specs.declared.vector.Vector.TheVariants.{Begin, Put, Delete, Undo, Commit, Abort, Create, DropObject, AddColumn, NoInMemory, EndThread}
 use Rattle.adg_base.specs.declared.log.LogEntry.{LogEntry}
 use Rattle.adg_model.specs.declared.fault.CheckKind.{CheckKind}
 use Rattle.adg_model.specs.declared.fault.CheckKind.TheVariants.{TxnTwice, TxnUnknown}
-use Rattle.adg_model.specs.Database.{Database, no_database, set_at, after, walked, place, touched_by}
+use Rattle.adg_model.specs.Database.{Database, no_database, set_at, after, walked, touched_by}
 use Rattle.adg_model.specs.Sound.{SoundFrom, demand, is_running, refusal}
 use Rattle.core_rules.specs.Share.{begins, ends}
 use Rattle.core_rules.specs.State.{At}

@@ -4,7 +4,7 @@ use Rattle.std.specs.Prelude.{◌==◌, slice_set, nat_lt, option_to_list}
 use Rattle.std.specs.List.{Contains, list_any, filter_map, cons_option}
 use Rattle.std.proofs.lemmas.Bool.{eqb-true, eq-eqb, ltb-true, lt-ltb, and_parts, and_from, cases_order}
 use Rattle.std.proofs.lemmas.List.Elements.{filter-append, filter_map-append}
-use Rattle.adg_base.specs.Address.{Place}
+use Rattle.adg_base.specs.Address.{Place, place}
 use Rattle.adg_base.specs.Area.{Held, HoldsPlace, HoldsBegin}
 use Rattle.adg_base.specs.Shard.{shard_of_txn, shard_of_vector}
 use Rattle.adg_base.specs.declared.vector.Vector.{Vector}
@@ -15,7 +15,7 @@ use Rattle.adg_base.specs.declared.node.NodeKind.TheVariants as node
 use Rattle.adg_base.specs.declared.node.DdlNode.{DdlNode}
 use Rattle.adg_model.specs.declared.mined.Mined.{Mined}
 use Rattle.adg_model.specs.declared.mined.Mined.TheVariants as mined
-use Rattle.adg_model.specs.Database.{is_in_memory, place, table_at, touched_by}
+use Rattle.adg_model.specs.Database.{is_in_memory, table_at, touched_by}
 use Rattle.adg_model.specs.Mined.{mined_of, mined_by, mined_at}
 use Rattle.core_rules.specs.Share.{is_shared_by, share, begins, ends, begun_above, node_by, node_of, nodes_of, ddl_by, ddl_of, NotedIn, BegunIn, EndedWithin}
 use Rattle.core_rules.specs.State.{CoreState, Worker, At, share_of, limit, holds_begin, PassesTxn}

@@ -3,7 +3,7 @@ use Rattle.std.proofs.Common.{◌≡◌, ℕ, ◌+◌, ◌<◌, ◌≤◌, ◌%�
 use Rattle.std.specs.Prelude.{◌==◌, ◌&&◌, nat_lt}
 use Rattle.std.specs.List.{Contains, list_any, filter_map, flat_map, range_with_len}
 use Rattle.std.proofs.lemmas.Bool.{eqb-true, eq-eqb, ltb-true, lt-ltb, and_parts, and_from}
-use Rattle.adg_base.specs.Address.{Place}
+use Rattle.adg_base.specs.Address.{Place, place}
 use Rattle.adg_base.specs.Shard.{shard_of_block, shard_of_txn, shard_of_object, shard_of_vector}
 use Rattle.adg_base.specs.declared.vector.Vector.{Vector}
 use Rattle.adg_base.specs.declared.vector.Vector.TheVariants.{Begin, Put, Delete, Undo, Commit, Abort, Create, DropObject, AddColumn, NoInMemory, EndThread}
@@ -12,7 +12,7 @@ use Rattle.adg_base.specs.declared.node.Node.{Node}
 use Rattle.adg_base.specs.declared.node.NodeKind.TheVariants as node
 use Rattle.adg_base.specs.declared.node.DdlNode.{DdlNode}
 use Rattle.adg_model.specs.declared.mined.Mined.TheVariants as mined
-use Rattle.adg_model.specs.Database.{is_in_memory, place, table_at, touched_by}
+use Rattle.adg_model.specs.Database.{is_in_memory, table_at, touched_by}
 use Rattle.adg_model.specs.Mined.{mined_of, mined_by, mined_at}
 use Rattle.core_rules.specs.Share.{is_shared_by, share, shares, begins, ends, redefines, begun_above, node_by, node_of, ddl_by, ddl_of}
 use Rattle.core_rules.proofs.Lists.{Has, has, contains, has-filter, has-filter_back, contains-filter, contains-filter_back, has-flat_map, has-flat_map_back, has-range, has-range_back, any-contains, any-contains_back}

@@ -1,11 +1,11 @@
 -- The rows of an object's extents, each beside its address and as wide as the object.
 use Rattle.std.specs.Prelude.{◌≡◌, ℕ, ◌+◌, ◌*◌, ◌<◌, ◌≤◌, List, map, Option, option_map}
 use Rattle.std.specs.List.{filter_map, flat_map, range_with_len}
-use Rattle.adg_base.specs.Address.{Place}
+use Rattle.adg_base.specs.Address.{Place, block_places}
 use Rattle.adg_base.specs.declared.value.Value.{Value}
 use Rattle.adg_base.specs.declared.placed.PlacedRow.{PlacedRow}
 use Rattle.adg_model.specs.Database.{Rows}
-use Rattle.adg_model.specs.Query.{block_places, padded}
+use Rattle.adg_model.specs.Query.{padded}
 
 -- an address lies in an extent of an object, which is 16 blocks
 pub record IsInExtent (obj extent : ℕ) (a : Place) : Type 0 where

@@ -14,13 +14,17 @@ use std::thread::Threads;
 use std::{fs, io};
 
 /// The names of the feeds, and the statuses that their runs end with.
-const EXAMPLES: [(&str, u8); 6] = [
+const EXAMPLES: [(&str, u8); 10] = [
     ("smallest", 0),
     ("first_answer", 0),
     ("two_sessions", 0),
     ("rich", 0),
+    ("two_threads", 0),
+    ("groups", 0),
     ("bad_trailer", 3),
+    ("bad_flag", 3),
     ("cut_short", 2),
+    ("not_built", 7),
 ];
 
 /// The words of the plain run.

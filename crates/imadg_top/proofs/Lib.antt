@@ -1,15 +1,1 @@
-pub mod AnsweredLaws
-pub mod ApplierLaws
-pub mod CountLines
-pub mod CountTexts
 pub mod HeadlineLaws
-pub mod LegalLaws
-pub mod ProgressLaws
-pub mod RunLaws
-pub mod StoreCommit
-pub mod StoreCount
-pub mod StoreKinds
-pub mod StoreRows
-pub mod StoreSteps
-pub mod ThreadLaws
-pub mod TranscriptMore

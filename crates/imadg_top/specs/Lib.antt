@@ -1,10 +1,2 @@
-pub mod Answered
-pub mod Applier
-pub mod Counting
 pub mod Headline
-pub mod Progress
-pub mod Run
-pub mod Served
-pub mod Store
-pub mod Thread
 pub mod Words

@@ -233,7 +233,14 @@ const DAMAGES: [Damage; 24] = [
         20,
         "feed refused: TooLarge at byte 15\n",
     ),
-    ("two threads", 139, &[(13, 2)], 7, 15, "not built yet\n"),
+    (
+        "a second thread that is silent",
+        139,
+        &[(13, 2)],
+        0,
+        139,
+        "d1 end scn=0\nd2 s1 c1 scn=0 refused NoTable\nd2 end scn=0\n",
+    ),
     (
         "another trailer",
         139,
@@ -286,9 +293,9 @@ const DAMAGES: [Damage; 24] = [
         "a commit without its flag",
         139,
         &[(95, 0)],
-        7,
+        3,
         103,
-        "not built yet\n",
+        "redo refused: thread 1 record 2 vector 3 BadFlag\n",
     ),
     (
         "another table",
@@ -337,7 +344,7 @@ fn feed_of(alloc: Global, redo: &[u8], commands: u16, text: &str) -> Result<Vec<
 
 #[test]
 fn refuses_one_more_than_the_most(rt: HostRuntime) -> Result<(), Fail> {
-    let rows: [(&str, &[u8], u16, &str, (u8, u64, &str)); 5] = [
+    let rows: [(&str, &[u8], u16, &str, (u8, u64, &str)); 6] = [
         (
             "an end of the thread",
             b"\0\x0e\0\0\0\0\0\0\0\x09\x01\x0b\0\x0e",
@@ -367,12 +374,13 @@ fn refuses_one_more_than_the_most(rt: HostRuntime) -> Result<(), Fail> {
             (2, 6_165, "feed refused: TooManyCommands at byte 6159\n"),
         ),
         (
-            "no count",
+            "a population",
             b"",
             1,
-            "SELECT COUNT FROM t01",
-            (7, 47, "not built yet\n"),
+            "POPULATE t1",
+            (7, 37, "not built yet\n"),
         ),
+        ("an abort", b"", 1, "ABORT", (7, 31, "not built yet\n")),
     ];
     for (name, redo, commands, text, wanted) in rows {
         let feed = feed_of(rt.alloc(), redo, commands, text)?;
@@ -706,6 +714,359 @@ d1 s2 c2 scn=11 rows=1 col=0 row=1\n= 1\nd1 end scn=11\n";
             feed.as_slice(),
             outside,
             wanted,
+        )?;
+    }
+    Ok(())
+}
+
+/// A name, redo of thread 1 whose second record fails a check, and the line.
+type Refusal = (&'static str, &'static [u8], &'static str);
+
+const REFUSALS: [Refusal; 8] = [
+    (
+        "TxnTwice",
+        b"\0\x15\0\0\0\0\0\0\0\x0a\x01\x07\0\x01\0\x01\x01\x01\x01\0\x15\0)\0\0\0\0\0\0\0\x0b\x03\x01\0\0\0\0\0\0\0\x07\x05\0\0\0\0\0\0\0\x07\0\x01\0\0\0\0\0\0\0\x07\0)",
+        "redo refused: thread 1 record 2 vector 3 TxnTwice\n",
+    ),
+    (
+        "TxnUnknown",
+        b"\0\x15\0\0\0\0\0\0\0\x0a\x01\x07\0\x01\0\x01\x01\x01\x01\0\x15\0%\0\0\0\0\0\0\0\x0b\x01\x02\0\0\0\0\0\0\0\x07\0\x01\0\0\0\x01\x01\0\0\0\0\0\0\0\x05\0%",
+        "redo refused: thread 1 record 2 vector 1 TxnUnknown\n",
+    ),
+    (
+        "ObjectTwice",
+        b"\0\x15\0\0\0\0\0\0\0\x0a\x01\x07\0\x01\0\x01\x01\x01\x01\0\x15\0\x18\0\0\0\0\0\0\0\x0b\x02\x08\0\x01\x07\0\x01\0\x01\x01\x01\x01\0\x18",
+        "redo refused: thread 1 record 2 vector 2 ObjectTwice\n",
+    ),
+    (
+        "NoObject",
+        b"\0\x15\0\0\0\0\0\0\0\x0a\x01\x07\0\x01\0\x01\x01\x01\x01\0\x15\0\x11\0\0\0\0\0\0\0\x0b\x01\x09\0\x02\x01\0\x11",
+        "redo refused: thread 1 record 2 vector 1 NoObject\n",
+    ),
+    (
+        "BadAddress",
+        b"\0\x15\0\0\0\0\0\0\0\x0a\x01\x07\0\x01\0\x01\x01\x01\x01\0\x15\0.\0\0\0\0\0\0\0\x0b\x02\x01\0\0\0\0\0\0\0\x07\x02\0\0\0\0\0\0\0\x07\0\x01\0\x10\0\x01\x01\0\0\0\0\0\0\0\x05\0.",
+        "redo refused: thread 1 record 2 vector 2 BadAddress\n",
+    ),
+    (
+        "BadRow",
+        b"\0\x15\0\0\0\0\0\0\0\x0a\x01\x07\0\x01\0\x01\x01\x01\x01\0\x15\0(\0\0\0\0\0\0\0\x0b\x02\x01\0\0\0\0\0\0\0\x07\x02\0\0\0\0\0\0\0\x07\0\x01\0\0\0\x01\x02\x01a\0(",
+        "redo refused: thread 1 record 2 vector 2 BadRow\n",
+    ),
+    (
+        "NothingToUndo",
+        b"\0\x15\0\0\0\0\0\0\0\x0a\x01\x07\0\x01\0\x01\x01\x01\x01\0\x15\0<\0\0\0\0\0\0\0\x0b\x03\x01\0\0\0\0\0\0\0\x07\x02\0\0\0\0\0\0\0\x07\0\x01\0\0\0\x01\x01\0\0\0\0\0\0\0\x05\x04\0\0\0\0\0\0\0\x07\0\x01\0\0\x01\0<",
+        "redo refused: thread 1 record 2 vector 3 NothingToUndo\n",
+    ),
+    (
+        "BadFlag",
+        b"\0\x15\0\0\0\0\0\0\0\x0a\x01\x07\0\x01\0\x01\x01\x01\x01\0\x15\08\0\0\0\0\0\0\0\x0b\x03\x01\0\0\0\0\0\0\0\x07\x02\0\0\0\0\0\0\0\x07\0\x01\0\0\0\x01\x01\0\0\0\0\0\0\0\x05\x05\0\0\0\0\0\0\0\x07\0\08",
+        "redo refused: thread 1 record 2 vector 3 BadFlag\n",
+    ),
+];
+
+#[test]
+fn refuses_redo_that_fails_a_check(rt: HostRuntime) -> Result<(), Fail> {
+    for (name, redo, written) in REFUSALS {
+        let feed = feed_of(rt.alloc(), redo, 1, "SYNC")?;
+        let taken = feed.len() as u64 - 5;
+        assert_runs(
+            &rt,
+            rt.alloc(),
+            name,
+            &ONE_WORKER,
+            feed.as_slice(),
+            CALM,
+            (3, taken, written),
+        )?;
+    }
+    Ok(())
+}
+
+/// Redo that makes `t1` of a number and a text, with five rows.
+const ROWS: &[u8] =
+    b"\0\x16\0\0\0\0\0\0\0\x0a\x01\x07\0\x01\0\x01\x01\x02\x01\x02\0\x16\0\x9d\0\0\0\0\0\0\0\x0b\x07\x01\0\0\0\0\0\0\0\x07\x02\0\0\0\0\0\0\0\x07\0\x01\0\0\0\x02\x01\0\0\0\0\0\0\0\x01\x02\x01a\x02\0\0\0\0\0\0\0\x07\0\x01\0\0\x01\x02\x01\0\0\0\0\0\0\0\x02\x02\x01b\x02\0\0\0\0\0\0\0\x07\0\x01\0\0\x02\x02\x01\0\0\0\0\0\0\0\x05\x02\x01a\x02\0\0\0\0\0\0\0\x07\0\x01\0\0\x03\x02\0\x02\x01b\x02\0\0\0\0\0\0\0\x07\0\x01\0\0\x04\x02\x01\0\0\0\0\0\0\0\x07\0\x05\0\0\0\0\0\0\0\x07\x01\0\x9d";
+
+/// Redo with each sort of vector: `t1` has one row and one column more, and `t2` is dropped.
+const EACH_SORT: &[u8] =
+    b"\0\x1d\0\0\0\0\0\0\0\x0a\x02\x07\0\x01\0\x01\x01\x01\x01\x07\0\x02\0\x01\0\x01\x01\0\x1d\0\x84\0\0\0\0\0\0\0\x0b\x07\x01\0\0\0\0\0\0\0\x07\x02\0\0\0\0\0\0\0\x07\0\x01\0\0\0\x01\x01\0\0\0\0\0\0\0\x01\x02\0\0\0\0\0\0\0\x07\0\x01\0\0\x01\x01\x01\0\0\0\0\0\0\0\x02\x04\0\0\0\0\0\0\0\x07\0\x01\0\0\x01\x02\0\0\0\0\0\0\0\x07\0\x01\0\0\x02\x01\x01\0\0\0\0\0\0\0\x03\x03\0\0\0\0\0\0\0\x07\0\x01\0\0\x02\x05\0\0\0\0\0\0\0\x07\x01\0\x84\0A\0\0\0\0\0\0\0\x0c\x06\x01\0\0\0\0\0\0\0\x08\x02\0\0\0\0\0\0\0\x08\0\x01\0\0\0\x01\x01\0\0\0\0\0\0\0\x09\x06\0\0\0\0\0\0\0\x08\x09\0\x01\x02\x0a\0\x01\x08\0\x02\0A\0\x0e\0\0\0\0\0\0\0\x0d\x01\x0b\0\x0e";
+
+/// A name, redo of thread 1, commands of session 1, the status, and the lines.
+type Run = (
+    &'static str,
+    &'static [u8],
+    &'static [&'static str],
+    u8,
+    &'static str,
+);
+
+const RUNS: [Run; 8] = [
+    (
+        "a group",
+        ROWS,
+        &["SELECT COUNT, SUM(c1), MAX(c1) FROM t1 GROUP BY c2"],
+        0,
+        "d1 s1 c1 scn=11 rows=3 col=0 row=5\n= NULL|1|7|7\n= 'a'|2|6|5\n= 'b'|2|2|2\nd1 end scn=11\n",
+    ),
+    (
+        "conditions",
+        ROWS,
+        &["SELECT * FROM t1 WHERE c1 > 1 AND c2 <> 'b'"],
+        0,
+        "d1 s1 c1 scn=11 rows=1 col=0 row=5\n= 5|'a'\nd1 end scn=11\n",
+    ),
+    (
+        "the SCN",
+        ROWS,
+        &["SYNC", "SHOW SCN", "SYNC"],
+        0,
+        "d1 s1 c1 scn=11 synced\nd1 s1 c2 scn=11 shown\nd1 s1 c3 scn=11 synced\nd1 end scn=11\n",
+    ),
+    (
+        "no command among commands",
+        ROWS,
+        &["SYNC", "", "SELECT COUNT FROM t01", "ABORTS", "SHOW SCN"],
+        0,
+        "d1 s1 c1 scn=11 synced\nd1 s1 c2 scn=11 refused BadQuery byte=0\n\
+d1 s1 c3 scn=11 refused BadQuery byte=19\nd1 s1 c4 scn=11 refused BadQuery byte=5\nd1 s1 c5 scn=11 shown\nd1 end scn=11\n",
+    ),
+    (
+        "refused queries",
+        ROWS,
+        &[
+            "SELECT * FROM t2",
+            "SELECT SUM(c3) FROM t1",
+            "SELECT SUM(c2) FROM t1",
+        ],
+        0,
+        "d1 s1 c1 scn=11 refused NoTable\nd1 s1 c2 scn=11 refused NoColumn\n\
+d1 s1 c3 scn=11 refused WrongType\nd1 end scn=11\n",
+    ),
+    (
+        "each sort of vector",
+        EACH_SORT,
+        &["SELECT * FROM t1", "SELECT COUNT FROM t2"],
+        0,
+        "d1 s1 c1 scn=13 rows=1 col=0 row=1\n= 1|NULL\nd1 s1 c2 scn=13 refused NoTable\nd1 end scn=13\n",
+    ),
+    (
+        "a population among commands",
+        ROWS,
+        &["SYNC", "POPULATE t1", "SYNC"],
+        7,
+        "not built yet\n",
+    ),
+    (
+        "an abort among commands",
+        ROWS,
+        &["SYNC", "ABORT", "SYNC"],
+        7,
+        "not built yet\n",
+    ),
+];
+
+/// Ends a delivery, and then the feed.
+fn push_ends(feed: &mut Vec<u8>) -> Result<(), Fail> {
+    push_frame(feed, b'E', &[])?;
+    push_frame(feed, b'X', &[])
+}
+
+/// Appends a command of a session.
+fn push_command(alloc: Global, feed: &mut Vec<u8>, session: u8, text: &str) -> Result<(), Fail> {
+    let mut payload = Vec::from_slice(alloc, &[session])?;
+    payload.extend_from_slice(text.as_bytes())?;
+    push_frame(feed, b'Q', payload.as_slice())
+}
+
+#[test]
+fn runs_whole_deliveries(rt: HostRuntime) -> Result<(), Fail> {
+    for (name, redo, commands, status, written) in RUNS {
+        let mut feed = Vec::from_slice(rt.alloc(), &FEED.as_slice()[..15])?;
+        push_redo(rt.alloc(), &mut feed, redo, 100)?;
+        for text in commands {
+            push_command(rt.alloc(), &mut feed, 1, text)?;
+        }
+        push_ends(&mut feed)?;
+        let unread = if status == 0 { 0 } else { 5 };
+        let taken = feed.len() as u64 - unread;
+        assert_runs(
+            &rt,
+            rt.alloc(),
+            name,
+            &ONE_WORKER,
+            feed.as_slice(),
+            CALM,
+            (status, taken, written),
+        )?;
+    }
+    Ok(())
+}
+
+/// A feed of two threads and two sessions with two deliveries. The second thread holds the frontier
+/// back until its last record comes.
+const TWO_THREADS: [u8; 236] = *b"IMADG01\nH\0\0\0\x02\x02\x02\
+R\0\0\0\x16\x01\0\x15\0\0\0\0\0\0\0\x0a\x01\x07\0\x01\0\x01\x01\x01\x01\0\x15\
+R\0\0\09\x02\08\0\0\0\0\0\0\0\x0a\x03\x01\0\0\0\0\0\0\0\x08\x02\0\0\0\0\0\0\0\x08\0\x01\0\0\0\x01\x01\0\0\0\0\0\0\0\x05\x05\0\0\0\0\0\0\0\x08\x01\08\
+R\0\0\09\x01\08\0\0\0\0\0\0\0\x0c\x03\x01\0\0\0\0\0\0\0\x07\x02\0\0\0\0\0\0\0\x07\0\x01\0\0\x01\x01\x01\0\0\0\0\0\0\0\x06\x05\0\0\0\0\0\0\0\x07\x01\08\
+E\0\0\0\0R\0\0\0\x0e\x02\0\x0d\0\0\0\0\0\0\0\x0c\0\0\x0d\
+Q\0\0\0\x15\x02SELECT COUNT FROM t1Q\0\0\0\x05\x01SYNC\
+E\0\0\0\0X\0\0\0\0";
+
+/// A name, the bytes that are others, and how the run ends.
+type TwoDamage = (&'static str, &'static [(usize, u8)], u8, u64, &'static str);
+
+const TWO_ANSWERS: &str = "d1 end scn=10\nd2 s1 c1 scn=12 synced\n\
+d2 s2 c1 scn=12 rows=1 col=0 row=2\n= 2\nd2 end scn=12\n";
+
+const TWO_DAMAGES: [TwoDamage; 13] = [
+    ("none", &[], 0, 236, TWO_ANSWERS),
+    (
+        "another trailer of thread 2",
+        &[(103, 0x39)],
+        3,
+        171,
+        "redo refused: thread 2 record 1 BadTrailer\n",
+    ),
+    (
+        "other trailers of both threads",
+        &[(103, 0x39), (165, 0x39)],
+        3,
+        171,
+        "redo refused: thread 1 record 2 BadTrailer\n",
+    ),
+    (
+        "an unsound entry, and a bad record behind it",
+        &[(101, 0), (165, 0x39)],
+        3,
+        171,
+        "redo refused: thread 1 record 2 BadTrailer\n",
+    ),
+    (
+        "no such vector in thread 2",
+        &[(59, 0x0d)],
+        3,
+        171,
+        "redo refused: thread 2 record 1 vector 1 BadVector\n",
+    ),
+    (
+        "an unsound entry of thread 2",
+        &[(101, 0)],
+        3,
+        171,
+        "redo refused: thread 2 record 1 vector 3 BadFlag\n",
+    ),
+    (
+        "unsound entries of both threads",
+        &[(101, 0), (163, 0)],
+        3,
+        171,
+        "redo refused: thread 2 record 1 vector 3 BadFlag\n",
+    ),
+    (
+        "an unsound entry above the frontier",
+        &[(163, 0)],
+        3,
+        231,
+        "d1 end scn=10\nredo refused: thread 1 record 2 vector 3 BadFlag\n",
+    ),
+    (
+        "an SCN of thread 2 that stands still",
+        &[(186, 10)],
+        3,
+        231,
+        "d1 end scn=10\nredo refused: thread 2 record 2 ScnOrder\n",
+    ),
+    (
+        "redo of thread 1 that comes as that of thread 2",
+        &[(109, 2)],
+        3,
+        231,
+        "d1 end scn=10\nredo refused: thread 2 record 3 ScnOrder\n",
+    ),
+    (
+        "redo of thread 3",
+        &[(176, 3)],
+        2,
+        177,
+        "d1 end scn=10\nfeed refused: BadThread at byte 171\n",
+    ),
+    (
+        "a command of session 3",
+        &[(195, 3)],
+        2,
+        196,
+        "d1 end scn=10\nfeed refused: BadSession at byte 190\n",
+    ),
+    (
+        "one thread",
+        &[(13, 1)],
+        2,
+        48,
+        "feed refused: BadThread at byte 42\n",
+    ),
+];
+
+#[test]
+fn names_each_damage_of_two_threads(rt: HostRuntime) -> Result<(), Fail> {
+    for (name, damage, status, taken, written) in TWO_DAMAGES {
+        let mut feed = Vec::from_slice(rt.alloc(), TWO_THREADS.as_slice())?;
+        for (at, byte) in damage {
+            if *at < feed.len() {
+                feed[*at] = *byte;
+            }
+        }
+        for gives in [1, 100_000] {
+            let outside = Outside { gives, ..CALM };
+            assert_runs(
+                &rt,
+                rt.alloc(),
+                name,
+                &ONE_WORKER,
+                feed.as_slice(),
+                outside,
+                (status, taken, written),
+            )?;
+        }
+    }
+    Ok(())
+}
+
+/// A record at SCN 10 that makes an object.
+fn push_create(alloc: Global, feed: &mut Vec<u8>, thread: u8, obj: u8) -> Result<(), Fail> {
+    let mut payload = Vec::from_slice(alloc, &[thread])?;
+    payload.extend_from_slice(&FEED.as_slice()[21..34])?;
+    payload.push(obj)?;
+    payload.extend_from_slice(&FEED.as_slice()[35..42])?;
+    push_frame(feed, b'R', payload.as_slice())
+}
+
+#[test]
+fn runs_eight_threads_and_sessions(rt: HostRuntime) -> Result<(), Fail> {
+    let mut feed = Vec::from_slice(rt.alloc(), b"IMADG01\nH\0\0\0\x02\x08\x08")?;
+    let mut written = String::new(rt.alloc());
+    for place in 0..8 {
+        push_create(rt.alloc(), &mut feed, 8 - place, 1 + place)?;
+    }
+    for place in 0..8 {
+        let session = 8 - place;
+        let text = format!(in rt.alloc(); "SELECT COUNT FROM t{session}")?;
+        push_command(rt.alloc(), &mut feed, session, text.as_str())?;
+        let session = 1 + place;
+        write!(written, "d1 s{session} c1 scn=10 rows=1 col=0 row=0\n= 0\n")?;
+    }
+    written.push_str("d1 end scn=10\n")?;
+    push_ends(&mut feed)?;
+    let taken = feed.len() as u64;
+    for workers in ["1", "2", "8"] {
+        let words = ["step", "--workers", workers];
+        assert_runs(
+            &rt,
+            rt.alloc(),
+            "eight",
+            &words,
+            feed.as_slice(),
+            CALM,
+            (0, taken, written.as_str()),
         )?;
     }
     Ok(())

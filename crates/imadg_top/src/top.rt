@@ -2,11 +2,11 @@ ghost use Rattle.std.specs.Prelude.{◌≡◌, map, string_bytes};
 ghost use Rattle.feed_run.specs.View.{source_view, sink_view};
 ghost use Rattle.imadg_top.specs.Headline.{Headline, IsComplete};
 
-use crate::applier::Applier;
 use crate::words::workers;
 use adg_io::outside::{Gate, Sink, Source};
 use feed_run::outcome::Outcome;
 use feed_run::run::{refuse_words, run_feed};
+use frontier_standby::FrontierStandby;
 use std::alloc::Global;
 use std::sync::Wait;
 use std::thread::Threads;
@@ -23,7 +23,7 @@ pub fn stepped<R: Source, K: Sink>(
     ensures complete { IsComplete (map (λ w. string_bytes w) words.now) (source_view (R.left source.old) (R.faults source.old)) (source_view (R.left source.new) (R.faults source.new)) (sink_view (K.held sink.old) (K.faults sink.old)) (sink_view (K.held sink.new) (K.faults sink.new)) result }
 {
     match workers(words) {
-        Some(workers) => run_feed::<Applier, R, K>(alloc, workers, source, sink),
+        Some(workers) => run_feed::<FrontierStandby, R, K>(alloc, workers, source, sink),
         None => refuse_words(sink),
     }
 }

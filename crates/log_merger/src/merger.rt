@@ -117,6 +117,7 @@ impl Merger {
         requires { AllByRecursion IsRead self.old.threads }
         ensures merged { IfOk result (λ entries. (texts : ℕ → ListOf ℕ) (given : ListOf LogEntry) → StandsFor self.old texts given → Merges self.old self.new texts given entries) }
         ensures memory { OnErr result (self.new ≡ self.old) }
+        ensures counted { OnOk result (self.new.given < 2 ^ 64) }
         ensures refused { self.new.refused ≡ self.old.refused }
         ensures threads { length self.new.threads ≡ length self.old.threads }
         ensures number { highest_number self.new ≡ highest_number self.old }
@@ -136,6 +137,7 @@ impl Merger {
         ensures refused { self.new.refused ≡ refusal_of result }
         ensures threads { length self.new.threads ≡ length self.old.threads }
         ensures number { highest_number self.new ≡ highest_number self.old }
+        ensures counted { OnOk result (self.new.given < 2 ^ 64) }
     {
         if let Some(fault) = self.refused {
             return Err(MergeRefused::Redo(fault));

@@ -104,6 +104,7 @@ impl RedoIntake {
         ensures takes { (threads : ℕ) (deliveries : List Delivery) (before : HasTaken self.old threads deliveries) → TakesOne before self.new delivery result }
         ensures threads { length self.new.merger.threads ≡ length self.old.merger.threads }
         ensures number { highest_number self.new.merger ≤ highest_number self.old.merger + length (bytes_of delivery.pieces) }
+        ensures counted { OnOk result (self.new.merger.given < 2 ^ 64) }
     {
         let RawDelivery {
             pieces,

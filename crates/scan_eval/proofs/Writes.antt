@@ -1,10 +1,10 @@
 -- Loops that write the elements of a list in their order, or take them out.
-use Rattle.std.proofs.Common.{◌≡◌, ℕ, Bool, true, false, cond, filter, ◌+◌, ◌-◌, ◌*◌, ◌<◌, ◌≤◌, List, [], ◌∷◌, ◌++◌, length, map, take, drop, get_or, set, refl, sym, ap, ap₂, ◌∙◌, arith}
+use Rattle.std.proofs.Common.{◌≡◌, ℕ, Bool, true, false, cond, filter, ◌+◌, ◌-◌, ◌<◌, ◌≤◌, List, [], ◌∷◌, ◌++◌, length, map, take, drop, get_or, set, refl, sym, ap, ap₂, ◌∙◌, arith}
 use Rattle.std.specs.Iterator.{Yields}
 use Rattle.std.specs.List.{AllByRecursion, zip}
 use Rattle.std.specs.Vec.Iter.{into_iter_items, into_iter_steps}
 use Rattle.std.specs.declared.vec.IntoIter.{IntoIter}
-use Rattle.std.proofs.lemmas.List.{get_or-append_right, get_or-drop, set-append_right, length-map, length-take-le, take_more, drop_more, append_assoc}
+use Rattle.std.proofs.lemmas.List.{get_or-append_right, get_or-drop, set-append_right, length-take-le, take_more, drop_more, append_assoc}
 
 -- what comes behind a front that is written
 pub after_front : {X : Type 0} (front xs : List X) (i : ℕ) (d : X) → length front ≡ i → get_or (front ++ drop i xs) i d ≡ get_or xs i d

@@ -1,8 +1,8 @@
 -- How many terms were summed, and their sum.
-use Rattle.std.specs.Prelude.{ℕ, ◌+◌, ◌*◌, ◌^◌, ℤ, pos, neg_ℤ, ◌+ℤ◌, ◌≤ℤ◌, List, [], ◌∷◌, length}
+use Rattle.std.specs.Prelude.{ℕ, ◌+◌, ◌*◌, ◌^◌, ℤ, pos, neg_ℤ, ◌+ℤ◌, ◌≤ℤ◌, List, length}
 use Rattle.adg_base.specs.declared.value.Value.{Value}
 use Rattle.adg_base.specs.declared.value.Value.TheVariants.{Null, Int, Text}
-use Rattle.adg_model.specs.Query.{number_of, total}
+use Rattle.adg_model.specs.Query.{total}
 
 pub record Summed : Type 0 where
   pub terms : ℕ

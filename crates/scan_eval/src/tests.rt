@@ -1,98 +1,64 @@
+ghost use Rattle.std.specs.Prelude.{◌≡◌, IfOk};
+
 use crate::accumulator::Accumulator;
 use crate::admission::QueryRefused;
 use crate::select::select;
 use adg_base::answer::{Answer, Cell, CellList};
-use adg_base::command::{Aggregate, Condition, Op, Select, What};
+use adg_base::command::{Aggregate, Command, Condition, Select, What};
 use adg_base::definition::Definition;
-use adg_base::list::List;
+use adg_base::list::{Duplicate, List};
+use adg_base::log::LogEntry;
 use adg_base::memory::Memory;
-use adg_base::number::Obj;
+use adg_base::number::{Obj, Pos, Scn, Txn};
 use adg_base::row::{Row, RowList};
 use adg_base::text::Text;
 use adg_base::value::{ColKind, Value};
+use adg_base::vector::Vector;
+use adg_model::plain::{PlainReply, plain_answer};
 use std::alloc::Global;
+use std::process::Abort;
 use std::test::Fail;
+use tables::{Ask, Case, Rows, Short, Sums, Test};
 
-/// Aggregates of rows of a number and a name.
-#[derive(Clone, Copy)]
-enum Sums {
-    Count,
-    Numbers,
-    Names,
-    SumOfNames,
-    ThirdColumn,
-}
+mod tables;
 
-/// What is asked: the rows, aggregates of all rows or of those that meet a condition, or groups by
-/// a column. A name is one letter.
-#[derive(Clone, Copy)]
-enum Ask {
-    Rows,
-    Of(Sums),
-    Where(Op, i64),
-    Named(Op, u8),
-    By(u8, Sums),
-}
-
-fn named(alloc: Global, letter: u8) -> Result<Value, Memory> {
-    match Text::new(alloc, &[letter]) {
-        Ok(text) => Ok(Value::Text(text)),
-        Err(_) => Err(Memory),
+fn value_of(alloc: Global, value: Short) -> Result<Value, Memory> {
+    match value {
+        Short::Absent | Short::Null => Ok(Value::Null),
+        Short::Int(number) => Ok(Value::Int(number)),
+        Short::Text(text) => match Text::new(alloc, text.as_bytes()) {
+            Ok(text) => Ok(Value::Text(text)),
+            Err(_) => Err(Memory),
+        },
     }
 }
 
-fn row_of(alloc: Global, number: Option<i64>, name: Option<u8>) -> Result<Row, Memory> {
-    let mut values = Vec::new(alloc);
-    match number {
-        Some(number) => values.push(Value::Int(number))?,
-        None => values.push(Value::Null)?,
-    }
+fn row_of(alloc: Global, number: Short, name: Short) -> Result<Row, Memory> {
+    let mut values = vec![in alloc; value_of(alloc, number)?]?;
     match name {
-        Some(letter) => values.push(named(alloc, letter)?)?,
-        None => values.push(Value::Null)?,
+        Short::Absent => {}
+        _ => values.push(value_of(alloc, name)?)?,
     }
     Row::from_vec(alloc, values)
 }
 
-static FIVE: [(Option<i64>, Option<u8>); 5] = [
-    (Some(1), Some(b'a')),
-    (Some(2), Some(b'b')),
-    (Some(5), Some(b'a')),
-    (None, Some(b'b')),
-    (Some(7), None),
-];
-
-static GREATEST: [(Option<i64>, Option<u8>); 2] = [(Some(i64::MAX), None), (Some(i64::MAX), None)];
-
-static LEAST: [(Option<i64>, Option<u8>); 2] = [(Some(i64::MIN), None), (Some(i64::MIN), None)];
-
-static NULLS: [(Option<i64>, Option<u8>); 2] = [(None, None), (None, None)];
-
-/// Which rows are asked.
-#[derive(Clone, Copy)]
-enum Of {
-    Five,
-    Greatest,
-    Least,
-    Nulls,
-    None,
-}
-
-fn rows_of(alloc: Global, rows: &[(Option<i64>, Option<u8>)]) -> Result<RowList, Memory> {
-    let mut list = List::new(alloc);
-    for (number, name) in rows {
-        list.push(row_of(alloc, *number, *name)?)?;
+fn list_of(alloc: Global, pairs: &[(Short, Short)]) -> Result<RowList, Memory> {
+    let mut rows = List::new(alloc);
+    for (number, name) in pairs {
+        rows.push(row_of(alloc, *number, *name)?)?;
     }
-    Ok(list)
+    Ok(rows)
 }
 
-fn list_of(alloc: Global, of: Of) -> Result<RowList, Memory> {
-    match of {
-        Of::Five => rows_of(alloc, FIVE.as_slice()),
-        Of::Greatest => rows_of(alloc, GREATEST.as_slice()),
-        Of::Least => rows_of(alloc, LEAST.as_slice()),
-        Of::Nulls => rows_of(alloc, NULLS.as_slice()),
-        Of::None => Ok(List::new(alloc)),
+fn rows_of(alloc: Global, rows: Rows) -> Result<RowList, Memory> {
+    match rows {
+        Rows::Empty => Ok(List::new(alloc)),
+        Rows::Five => list_of(alloc, tables::FIVE.as_slice()),
+        Rows::Mixed => list_of(alloc, tables::MIXED.as_slice()),
+        Rows::Greatest => list_of(alloc, tables::GREATEST.as_slice()),
+        Rows::Least => list_of(alloc, tables::LEAST.as_slice()),
+        Rows::Nulls => list_of(alloc, tables::NULLS.as_slice()),
+        Rows::Narrow => list_of(alloc, tables::NARROW.as_slice()),
     }
 }
 
@@ -100,39 +66,47 @@ fn aggregates_of(alloc: Global, sums: Sums) -> Result<What, Memory> {
     use Aggregate::{Count, Max, Min, Sum};
 
     let aggregates = match sums {
-        Sums::Count => vec![in alloc; Count]?,
+        Sums::Counted => vec![in alloc; Count]?,
         Sums::Numbers => vec![in alloc; Count, Sum(1), Min(1), Max(1)]?,
-        Sums::Names => vec![in alloc; Min(2), Max(2)]?,
-        Sums::SumOfNames => vec![in alloc; Sum(2)]?,
-        Sums::ThirdColumn => vec![in alloc; Sum(2), Sum(3)]?,
+        Sums::Names => vec![in alloc; Count, Min(2), Max(2)]?,
+        Sums::NamesSummed => vec![in alloc; Sum(2)]?,
+        Sums::Third => vec![in alloc; Min(3)]?,
+        Sums::Fourth => vec![in alloc; Sum(2), Sum(4)]?,
     };
     Ok(What::Aggregates(List::from_vec(aggregates)))
+}
+
+fn condition_of(alloc: Global, test: Test) -> Result<Condition, Memory> {
+    let (column, op, literal) = test;
+    Ok(Condition {
+        column,
+        op,
+        literal: value_of(alloc, literal)?,
+    })
 }
 
 fn query_of(alloc: Global, ask: Ask, obj: Obj) -> Result<Select, Memory> {
     let mut conditions = List::new(alloc);
     let mut group = None;
     let what = match ask {
-        Ask::Rows => What::All,
+        Ask::All => What::All,
         Ask::Of(sums) => aggregates_of(alloc, sums)?,
-        Ask::Where(op, number) => {
-            conditions.push(Condition {
-                column: 1,
-                op,
-                literal: Value::Int(number),
-            })?;
-            What::All
-        }
-        Ask::Named(op, letter) => {
-            conditions.push(Condition {
-                column: 2,
-                op,
-                literal: named(alloc, letter)?,
-            })?;
-            aggregates_of(alloc, Sums::Count)?
-        }
         Ask::By(column, sums) => {
             group = Some(column);
+            aggregates_of(alloc, sums)?
+        }
+        Ask::Where(test) => {
+            conditions.push(condition_of(alloc, test)?)?;
+            What::All
+        }
+        Ask::WhereBy(test, column, sums) => {
+            conditions.push(condition_of(alloc, test)?)?;
+            group = Some(column);
+            aggregates_of(alloc, sums)?
+        }
+        Ask::Both(first, second, sums) => {
+            conditions.push(condition_of(alloc, first)?)?;
+            conditions.push(condition_of(alloc, second)?)?;
             aggregates_of(alloc, sums)?
         }
     };
@@ -162,7 +136,6 @@ fn push_line(alloc: Global, text: &mut String, line: &CellList) -> Result<(), Me
     Ok(())
 }
 
-/// An answer as a text: each cell before a bar, each line before a semicolon.
 fn shown(alloc: Global, answer: &Answer) -> Result<String, Memory> {
     let mut text = String::new(alloc);
     for line in answer.as_slice() {
@@ -178,6 +151,7 @@ fn told(alloc: Global, answered: Result<Answer, QueryRefused>) -> Result<String,
     }
 }
 
+/// Of a number and a name.
 fn definition(obj: Obj) -> Definition {
     let mut kinds = [ColKind::Int; 16];
     kinds[1] = ColKind::Text;
@@ -190,103 +164,131 @@ fn definition(obj: Obj) -> Definition {
     }
 }
 
-#[test]
-fn selects_from_rows(rt: HostRuntime) -> Result<(), Fail> {
-    use Ask::{By, Named, Rows, Where};
-    use Sums::{Count, Names, Numbers, SumOfNames, ThirdColumn};
+/// An accumulator with these rows.
+fn part_of(
+    alloc: Global,
+    rows: &[Row],
+    query: &Select,
+    def: &Definition,
+) -> Result<Accumulator, QueryRefused>
+    ensures { IfOk result (λ part. part ≡ record { select = query.now; rows = rows.now }) }
+{
+    let mut part = Accumulator::new(alloc, query, def)?;
+    for row in rows {
+        part.add(alloc, row)?;
+    }
+    Ok(part)
+}
 
-    let alloc = rt.alloc();
+/// The answer of two accumulators, the one of the rows before an index and the other of the rest.
+fn joined(
+    alloc: Global,
+    rows: &[Row],
+    at: usize,
+    query: &Select,
+    def: &Definition,
+) -> Result<Answer, QueryRefused> {
+    let at = at.min(rows.len());
+    let mut front = part_of(alloc, &rows[..at], query, def)?;
+    front.join(alloc, part_of(alloc, &rows[at..], query, def)?)?;
+    Ok(front.finish(alloc)?)
+}
+
+/// The vectors that give an object these rows.
+fn vectors_of(alloc: Global, rows: &[Row], obj: Obj, txn: Txn) -> Result<Vec<Vector>, Memory> {
+    let columns = List::from_slice(alloc, [ColKind::Int, ColKind::Text].as_slice())?;
+    let create = Vector::Create {
+        obj,
+        extents: 1,
+        flag: true,
+        columns,
+    };
+    let mut vectors = vec![in alloc; create, Vector::Begin { txn }]?;
+    for (slot, row) in rows.iter().enumerate() {
+        vectors.push(Vector::Put {
+            txn,
+            obj,
+            block: 0,
+            slot: u8::try_from(slot).unwrap_or(63),
+            row: row.copy(alloc)?,
+        })?;
+    }
+    vectors.push(Vector::Commit { txn, flag: true })?;
+    Ok(vectors)
+}
+
+fn log_of(alloc: Global, rows: &[Row], obj: Obj, scn: Scn) -> Result<Vec<LogEntry>, Fail> {
+    let txn = Txn::new(7).ok_or("txn")?;
+    let mut log = Vec::new(alloc);
+    for vector in vectors_of(alloc, rows, obj, txn)? {
+        log.push(LogEntry {
+            pos: Pos::new(log.len() as u64),
+            scn,
+            thread: 1,
+            number: 1,
+            index: 1,
+            vector,
+        })?;
+    }
+    Ok(log)
+}
+
+/// The reply of the plain program over a log that gives the object these rows.
+fn plainly(alloc: Global, rows: &[Row], query: Select) -> Result<String, Fail> {
+    let scn = Scn::new(11).ok_or("scn")?;
+    let log = log_of(alloc, rows, query.obj, scn)?;
+    match plain_answer(alloc, log.as_slice(), &Command::Select(query), scn)? {
+        PlainReply::Rows(answer, count) if count == rows.len() as u64 => Ok(shown(alloc, &answer)?),
+        other => Ok(format!(in alloc; "{other:?}")?),
+    }
+}
+
+/// That `select`, two accumulators that share the rows, and the plain program give this answer.
+fn assert_answer(rt: &impl Abort, alloc: Global, case: &Case) -> Result<(), Fail> {
+    let (name, rows, ask, want) = *case;
     let obj = Obj::new(1).ok_or("obj")?;
-    let cases = [
-        (
-            "rows",
-            Of::Greatest,
-            Rows,
-            "9223372036854775807|NULL|;9223372036854775807|NULL|;",
-        ),
-        ("no rows", Of::None, Rows, ""),
-        ("all", Of::Five, Ask::Of(Numbers), "5|15|1|7|;"),
-        ("of none", Of::None, Ask::Of(Numbers), "0|NULL|NULL|NULL|;"),
-        (
-            "of nulls",
-            Of::Nulls,
-            Ask::Of(Numbers),
-            "2|NULL|NULL|NULL|;",
-        ),
-        (
-            "up",
-            Of::Greatest,
-            Ask::Of(Numbers),
-            "2|18446744073709551614|9223372036854775807|9223372036854775807|;",
-        ),
-        (
-            "down",
-            Of::Least,
-            Ask::Of(Numbers),
-            "2|-18446744073709551616|-9223372036854775808|-9223372036854775808|;",
-        ),
-        ("names", Of::Five, Ask::Of(Names), "a|b|;"),
-        ("equal", Of::Five, Where(Op::Eq, 5), "5|a|;"),
-        ("other", Of::Five, Where(Op::Ne, 5), "1|a|;2|b|;7|NULL|;"),
-        ("less", Of::Five, Where(Op::Lt, 2), "1|a|;"),
-        ("at most", Of::Five, Where(Op::Le, 2), "1|a|;2|b|;"),
-        ("greater", Of::Five, Where(Op::Gt, 5), "7|NULL|;"),
-        ("at least", Of::Five, Where(Op::Ge, 5), "5|a|;7|NULL|;"),
-        ("no b", Of::Five, Named(Op::Ne, b'b'), "2|;"),
-        (
-            "groups",
-            Of::Five,
-            By(2, Numbers),
-            "NULL|1|7|7|7|;a|2|6|1|5|;b|2|2|2|2|;",
-        ),
-        (
-            "by numbers",
-            Of::Five,
-            By(1, Count),
-            "NULL|1|;1|1|;2|1|;5|1|;7|1|;",
-        ),
-        ("no groups", Of::None, By(1, Count), ""),
-        ("a sum of names", Of::Five, Ask::Of(SumOfNames), "WrongType"),
-        ("a column first", Of::Five, Ask::Of(ThirdColumn), "NoColumn"),
-    ];
-    for (name, of, ask, want) in cases {
-        let query = query_of(alloc, ask, obj)?;
-        let rows = list_of(alloc, of)?;
-        let answer = told(alloc, select(alloc, &rows, &query, &definition(obj)))?;
-        assert_eq!(rt; answer.as_str(), want, "{name}");
+    let def = definition(obj);
+    let query = query_of(alloc, ask, obj)?;
+    let rows = rows_of(alloc, rows)?;
+    let selected = told(alloc, select(alloc, &rows, &query, &def))?;
+    assert_eq!(rt; selected.as_str(), want, "{name}");
+    for at in 0..=rows.len() {
+        let both = told(alloc, joined(alloc, rows.as_slice(), at, &query, &def))?;
+        assert_eq!(rt; both.as_str(), want, "{name}, joined at {at}");
+    }
+    let plain = plainly(alloc, rows.as_slice(), query)?;
+    assert_eq!(rt; plain.as_str(), want, "{name}, plainly");
+    Ok(())
+}
+
+#[test]
+fn meets_conditions(rt: HostRuntime) -> Result<(), Fail> {
+    for case in &tables::CONDITIONS {
+        assert_answer(&rt, rt.alloc(), case)?;
     }
     Ok(())
 }
 
-/// The answer over two rows, each added to an accumulator of its own.
-fn joined(alloc: Global, query: &Select, obj: Obj) -> Result<Answer, QueryRefused> {
-    let def = definition(obj);
-    let first = row_of(alloc, Some(1), Some(b'a'))?;
-    let later = row_of(alloc, Some(2), Some(b'a'))?;
-    let mut front = Accumulator::new(alloc, query, &def)?;
-    front.add(alloc, &first)?;
-    let mut back = Accumulator::new(alloc, query, &def)?;
-    back.add(alloc, &later)?;
-    front.join(alloc, back)?;
-    Ok(front.finish(alloc)?)
+#[test]
+fn sums_up(rt: HostRuntime) -> Result<(), Fail> {
+    for case in &tables::AGGREGATES {
+        assert_answer(&rt, rt.alloc(), case)?;
+    }
+    Ok(())
 }
 
 #[test]
-fn joins_accumulators(rt: HostRuntime) -> Result<(), Fail> {
-    use Ask::{By, Rows};
-    use Sums::Numbers;
+fn groups(rt: HostRuntime) -> Result<(), Fail> {
+    for case in &tables::GROUPS {
+        assert_answer(&rt, rt.alloc(), case)?;
+    }
+    Ok(())
+}
 
-    let alloc = rt.alloc();
-    let obj = Obj::new(1).ok_or("obj")?;
-    let cases = [
-        ("rows", Rows, "1|a|;2|a|;"),
-        ("all", Ask::Of(Numbers), "2|3|1|2|;"),
-        ("groups", By(2, Numbers), "a|2|3|1|2|;"),
-    ];
-    for (name, ask, want) in cases {
-        let query = query_of(alloc, ask, obj)?;
-        let answer = told(alloc, joined(alloc, &query, obj))?;
-        assert_eq!(rt; answer.as_str(), want, "{name}");
+#[test]
+fn refuses_in_order(rt: HostRuntime) -> Result<(), Fail> {
+    for case in &tables::REFUSALS {
+        assert_answer(&rt, rt.alloc(), case)?;
     }
     Ok(())
 }

@@ -1,5 +1,4 @@
 use Rattle.std.proofs.Common.{◌≡◌, take}
-use Rattle.scan_eval.specs.Added.{Added}
 use Rattle.scan_eval.proofs.select.select.Given as goal
 
 abbrev pub invariant-loop-row : goal.invariant-loop-row

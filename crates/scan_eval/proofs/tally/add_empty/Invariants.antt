@@ -1,4 +1,4 @@
-use Rattle.std.proofs.Common.{◌≡◌, ◌++◌, [], map, take}
+use Rattle.std.proofs.Common.{◌≡◌, ◌++◌, [], take}
 use Rattle.scan_eval.specs.Tally.{tallies_of}
 use Rattle.scan_eval.proofs.tally.add_empty.Given as goal
 

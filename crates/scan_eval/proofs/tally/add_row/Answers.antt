@@ -1,10 +1,9 @@
-use Rattle.std.proofs.Common.{◌≡◌, ℕ, ◌<◌, ◌+◌, ◌^◌, List, length, map, take, get_or, set, ◌∙◌, ap, sym, subst, arith}
+use Rattle.std.proofs.Common.{◌≡◌, ◌<◌, ◌+◌, ◌^◌, List, length, map, take, get_or, set, ◌∙◌, ap, sym, subst, arith}
 use Rattle.std.proofs.lemmas.List.{length-map, length-take-le}
 use Rattle.std.proofs.lemmas.List.Edits.{map_over_more}
 use Rattle.scan_eval.specs.declared.tally.Tally.{Tally}
 use Rattle.scan_eval.specs.Tally.{with_row, size_of}
-use Rattle.scan_eval.proofs.Writes.{after_front, front_more, zip_front}
-use Rattle.scan_eval.proofs.GroupOrder.{lines_in_order}
+use Rattle.scan_eval.proofs.Writes.{after_front}
 use Rattle.scan_eval.proofs.tally.add_row.Goals as goal
 
 pub add-requires : goal.add-requires

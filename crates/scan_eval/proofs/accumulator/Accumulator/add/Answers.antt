@@ -3,12 +3,10 @@ use Rattle.std.specs.List.{list_all}
 use Rattle.std.proofs.lemmas.List.{append-nil}
 use Rattle.std.proofs.lemmas.List.Elements.{filter-append}
 use Rattle.adg_base.specs.declared.command.Condition.{Condition}
-use Rattle.adg_base.specs.declared.command.Select.{Select}
 use Rattle.adg_base.specs.declared.value.Value.{Value}
 use Rattle.adg_model.specs.Query.{meets, filtered}
 use Rattle.scan_eval.specs.Gathered.{Gathers}
 use Rattle.scan_eval.specs.declared.accumulator.Accumulator.TheInside.{Inside}
-use Rattle.scan_eval.specs.declared.accumulator.Gathered.{Gathered}
 use Rattle.scan_eval.proofs.accumulator.Accumulator.add.Goals as goal
 use Rattle.scan_eval.proofs.accumulator.Accumulator.add.Goals.{then-meets_all+in-Ok, else-meets_all}
 

@@ -1,4 +1,4 @@
-use Rattle.std.proofs.Common.{◌≡◌, ℕ, Some, sym, ap, ◌∙◌}
+use Rattle.std.proofs.Common.{Some, sym, ap, ◌∙◌}
 use Rattle.adg_base.specs.declared.command.What.{What}
 use Rattle.adg_base.specs.declared.command.What.TheVariants.{Aggregates}
 use Rattle.adg_model.specs.Query.{aggregates_of}

@@ -1,4 +1,4 @@
-use Rattle.std.proofs.Common.{◌≡◌, ◌+◌, ◌<◌, ◌^◌, ap, arith}
+use Rattle.std.proofs.Common.{ap, arith}
 use Rattle.std.proofs.lemmas.Int.{ints}
 use Rattle.scan_eval.specs.Summed.{Summed}
 use Rattle.scan_eval.proofs.tally.RunningSum.join.Goals as goal

@@ -1,0 +1,9 @@
+//! The DDL table: the changes of objects' definitions, until a flush takes those up to its SCN.
+#![tactic(auto)]
+
+pub mod table;
+#[cfg(test)]
+mod tests;
+
+pub use adg_base::node::{DdlList, DdlNode};
+pub use table::DdlTable;

@@ -1,0 +1,3 @@
+pub mod BlockRows
+pub mod Extents
+pub mod QueryReplies

@@ -1,0 +1,26 @@
+ghost use Rattle.adg_model.specs.Query.{padded};
+
+use adg_base::row::Row;
+use adg_base::value_ref::{RowView, ValueRef};
+
+/// A row of an object with so many columns: it shows no value in the columns that it lacks.
+#[derive(Clone, Copy)]
+pub struct WideRow<'a> {
+    pub row: &'a Row,
+    pub width: usize,
+}
+
+impl RowView for WideRow<'_> {
+    ghost values = { λ r. padded r.width r.row.now };
+
+    fn width(&self) -> usize {
+        self.width.max(self.row.len())
+    }
+
+    fn value(&self, index: usize) -> ValueRef<'_> {
+        match self.row.as_slice().get(index) {
+            Some(value) => ValueRef::of(value),
+            None => ValueRef::Null,
+        }
+    }
+}

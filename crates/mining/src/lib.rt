@@ -1,0 +1,9 @@
+//! What each entry of the log notes for the column units.
+#![tactic(auto)]
+
+mod miner;
+#[cfg(test)]
+mod tests;
+
+pub use adg_model::mined::Mined;
+pub use miner::mine;
