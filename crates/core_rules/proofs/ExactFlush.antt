@@ -6,14 +6,13 @@ use Rattle.std.specs.List.Sorted.{IsNonDecreasingBy}
 use Rattle.std.proofs.lemmas.Bool.{eqb-true, eq-eqb, eqb-false, ltb-true, lt-ltb, leb-true, le-leb, leb-false, and_parts, and_from, cases_eq}
 use Rattle.std.proofs.lemmas.List.{take-append-drop, length-take, length-drop}
 use Rattle.std.proofs.lemmas.List.Sorted.{IsPermutation-refl, IsPermutation-cons, IsPermutation-trans, IsPermutation-middle}
-use Rattle.adg_base.specs.Address.{Place}
+use Rattle.adg_base.specs.Address.{Place, same_place}
 use Rattle.adg_base.specs.Area.{Held, HoldsPlace, HoldsBegin}
 use Rattle.adg_base.specs.Shard.{shard_of_unit}
 use Rattle.adg_base.specs.declared.node.Node.{Node}
 use Rattle.adg_base.specs.declared.node.DdlNode.{DdlNode}
 use Rattle.adg_base.specs.declared.node.Item.{Item}
 use Rattle.adg_model.specs.Mined.{node_item, ddl_item}
-use Rattle.adg_model.specs.Database.{same_place}
 use Rattle.core_rules.specs.Extents.{IsInExtent}
 use Rattle.core_rules.specs.State.{CoreState, Worker, Idle, Collected, Stage, Unclaimed, Claimed, Finished, Link, ColumnUnit, Units, At, is_unclaimed, has_txn, has_change, has_coarse, has_drop, HasCollected}
 use Rattle.core_rules.specs.Flush.{CanBeginFlush, BeginsFlush, nodes_upto, AreFull, AreChopped, CanClaim, Claims, IsFirstUnclaimed, CanCollect, Collects, AreaGives, Gains, CanTouch, Touches, Marks, IsMarked, IsTouched, CanFinish, Finishes, CanPublish, Publishes}

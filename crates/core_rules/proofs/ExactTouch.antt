@@ -3,10 +3,9 @@ use Rattle.std.proofs.Common.{◌≡◌, ℕ, ◌+◌, ◌-◌, ◌*◌, ◌<◌
 use Rattle.std.specs.Prelude.{◌==◌, nat_lt, nat_le}
 use Rattle.std.specs.List.{Contains, list_any}
 use Rattle.std.proofs.lemmas.Bool.{eqb-true, eq-eqb, ltb-true, lt-ltb, leb-true, le-leb, and_parts, and_from, cases_eq}
-use Rattle.adg_base.specs.Address.{Place}
+use Rattle.adg_base.specs.Address.{Place, same_place}
 use Rattle.adg_base.specs.Shard.{shard_of_unit}
 use Rattle.adg_base.specs.declared.node.Item.{Item}
-use Rattle.adg_model.specs.Database.{same_place}
 use Rattle.core_rules.specs.Extents.{IsInExtent}
 use Rattle.core_rules.specs.State.{CoreState, Collected, Link, ColumnUnit, Units, At, has_change, has_coarse, has_drop, HasCollected}
 use Rattle.core_rules.specs.Flush.{CanTouch, Touches, Marks, IsMarked, IsTouched, CanFinish, Finishes, CanPublish, Publishes}

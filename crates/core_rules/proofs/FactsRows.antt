@@ -3,12 +3,12 @@ use Rattle.std.proofs.Common.{◌≡◌, ℕ, suc, ◌<◌, ◌≤◌, Bool, tru
 use Rattle.std.specs.Prelude.{◌==◌, ◌||◌, nat_le}
 use Rattle.std.specs.List.{AllByRecursion}
 use Rattle.std.proofs.lemmas.Bool.{eqb-true, eq-eqb, leb-true, and_parts, or_parts}
-use Rattle.adg_base.specs.Address.{Place, place}
+use Rattle.adg_base.specs.Address.{Place, place, same_place}
 use Rattle.adg_base.specs.declared.vector.Vector.{Vector}
 use Rattle.adg_base.specs.declared.vector.Vector.TheVariants.{Begin, Put, Delete, Undo, Commit, Abort, Create, DropObject, AddColumn, NoInMemory, EndThread}
 use Rattle.adg_base.specs.declared.log.LogEntry.{LogEntry}
 use Rattle.adg_model.specs.Log.{upto}
-use Rattle.adg_model.specs.Database.{Rows, Change, Database, no_database, set_at, same_place, played, struck, has_change, after, walked, database, rows_at, touched_by, touched, commits}
+use Rattle.adg_model.specs.Database.{Rows, Change, Database, no_database, set_at, played, struck, has_change, after, walked, database, rows_at, touched_by, touched, commits}
 use Rattle.adg_model.proofs.LogLaws.{upto_all, upto_append, scns_split}
 use Rattle.adg_model.proofs.RowLaws.{walked_append}
 use Rattle.core_rules.specs.Share.{CommitsAt}

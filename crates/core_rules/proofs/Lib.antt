@@ -33,3 +33,4 @@ pub mod ExactWorkers
 pub mod ExactFlush
 pub mod ExactTouch
 pub mod CodeLaws
+pub mod ScanMeaning

@@ -2,7 +2,7 @@
 use Rattle.std.specs.Prelude.{◌≡◌, ℕ, ◌<◌, ◌≤◌, Bool, true, false, not, ◌==◌, ◌&&◌, if◌then◌else◌, List, [], ◌∷◌, ◌++◌, length, filter, Option, Some, None, is_some}
 use Rattle.std.specs.List.{list_any, zip}
 use Rattle.std.specs.Str.{bytes_eq}
-use Rattle.adg_base.specs.Address.{Place}
+use Rattle.adg_base.specs.Address.{Place, same_place}
 use Rattle.adg_base.specs.declared.vector.Vector.{Vector}
 use Rattle.adg_base.specs.declared.vector.Vector.TheVariants.{Commit}
 use Rattle.adg_base.specs.declared.log.LogEntry.{LogEntry}
@@ -14,7 +14,7 @@ use Rattle.adg_base.specs.declared.answer.Reply.{Reply}
 use Rattle.adg_base.specs.declared.answer.Reply.TheVariants as reply
 use Rattle.adg_base.specs.declared.answer.Lines.{Lines}
 use Rattle.adg_model.specs.Command.{Spells, command_bytes}
-use Rattle.adg_model.specs.Database.{Rows, Table, same_place, rows_at, table_at, touched}
+use Rattle.adg_model.specs.Database.{Rows, Table, rows_at, table_at, touched}
 use Rattle.adg_model.specs.Query.{object_places}
 use Rattle.adg_model.specs.Transcript.{texts_of, replies_to, is_abort, replies_that, is_aborted}
 use Rattle.core_rules.specs.Share.{NotRedefined}
