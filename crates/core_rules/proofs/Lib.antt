@@ -13,3 +13,6 @@ pub mod UnitsTouched
 pub mod UnitsPublished
 pub mod PreciseMarks
 pub mod FlushLaw
+pub mod Holds
+pub mod Populated
+pub mod Installed
