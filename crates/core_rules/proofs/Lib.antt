@@ -34,3 +34,6 @@ pub mod ExactFlush
 pub mod ExactTouch
 pub mod CodeLaws
 pub mod ScanMeaning
+pub mod Holds
+pub mod Populated
+pub mod Installed
