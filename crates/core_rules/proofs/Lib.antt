@@ -37,3 +37,4 @@ pub mod ScanMeaning
 pub mod Holds
 pub mod Populated
 pub mod Installed
+pub mod ExactEvents
