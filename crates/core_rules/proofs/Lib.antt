@@ -38,3 +38,7 @@ pub mod Holds
 pub mod Populated
 pub mod Installed
 pub mod ExactEvents
+pub mod FactsTables
+pub mod FactsFlags
+pub mod ExactSessions
+pub mod Exact
