@@ -42,3 +42,4 @@ pub mod FactsTables
 pub mod FactsFlags
 pub mod ExactSessions
 pub mod Exact
+pub mod Whole

@@ -4,3 +4,4 @@
 #![tactic(auto)]
 
 pub mod event;
+pub mod laws;
