@@ -16,3 +16,6 @@ pub mod FlushLaw
 pub mod Holds
 pub mod Populated
 pub mod Installed
+pub mod Gathered
+pub mod ScanLaws
+pub mod Replied
