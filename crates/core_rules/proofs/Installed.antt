@@ -94,7 +94,7 @@ module _ (c : CoreState) (p : Population) (is : PopulationIs c.log c.query c.tic
 abbrev next_extent : Population → ℕ → Population
 next_extent p installed = record p { extent = p.extent + 1; blocks = 0; read = []; installed = installed }
 
-installed-most : (p : Population) (units : Units) → p.installed ≤ p.extent → installed_then p units ≤ p.extent + 1
+pub installed-most : (p : Population) (units : Units) → p.installed ≤ p.extent → installed_then p units ≤ p.extent + 1
 installed-most p units h = by_test (awaits p.ticket (units p.obj p.extent))
   where
     by_test : (b : Bool) → (if b then p.installed + 1 else p.installed) ≤ p.extent + 1

@@ -33,7 +33,6 @@ pub mod ExactWorkers
 pub mod ExactFlush
 pub mod ExactTouch
 pub mod CodeLaws
-pub mod ScanMeaning
 pub mod Holds
 pub mod Populated
 pub mod Installed
@@ -43,3 +42,6 @@ pub mod FactsFlags
 pub mod ExactSessions
 pub mod Exact
 pub mod Whole
+pub mod Gathered
+pub mod ScanLaws
+pub mod Replied

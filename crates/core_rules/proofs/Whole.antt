@@ -19,13 +19,14 @@ use Rattle.core_rules.proofs.UnitsPublished.{publish_units}
 use Rattle.core_rules.proofs.PreciseMarks.{begin_flush_precise, claim_precise, collect_precise, touch_precise, finish_precise, publish_precise}
 use Rattle.core_rules.proofs.Populated.{populate_keeps, register_keeps, release_keeps, read_keeps, populate_precise, register_precise, release_precise, read_precise}
 use Rattle.core_rules.proofs.Installed.{install_keeps, install_precise}
+use Rattle.core_rules.proofs.Gathered.{scan_begin_keeps, gather_keeps, scan_end_keeps, scan_begin_precise, gather_precise, scan_end_precise}
 use Rattle.core_rules.proofs.Received.{receive_keeps, receive_precise}
 use Rattle.core_rules.proofs.Joined.{EventsKeep, steps_keep, steps_keep_precise, runs_meet}
 use Rattle.core_rules.proofs.Ending as ending
 use Rattle.core_rules.proofs.FlushLaw as law
 use Rattle.core_rules.proofs.Exact as exact
 use Rattle.core_rules.proofs.CodeLaws as code
-use Rattle.core_rules.proofs.ScanMeaning as meaning
+use Rattle.core_rules.proofs.Replied as replied
 
 pub log_has_facts : LogHasFacts
 log_has_facts = facts.log_has_facts noted flagged same_table extents
@@ -46,9 +47,9 @@ events_keep = record {
   release = release_keeps;
   read = read_keeps;
   install = install_keeps;
-  scan_begin = ?;
-  gather = ?;
-  scan_end = ?;
+  scan_begin = scan_begin_keeps;
+  gather = gather_keeps;
+  scan_end = scan_end_keeps;
   restart = restart_keeps;
 }
 
@@ -68,9 +69,9 @@ events_precise = record {
   release = release_precise;
   read = read_precise;
   install = install_precise;
-  scan_begin = ?;
-  gather = ?;
-  scan_end = ?;
+  scan_begin = scan_begin_precise;
+  gather = gather_precise;
+  scan_end = scan_end_precise;
   restart = restart_precise;
 }
 
@@ -99,7 +100,7 @@ pub flush_before_publish : FlushBeforePublish
 flush_before_publish = law.flush_before_publish events_keep.publish log_has_facts
 
 pub replies_have_meaning : RepliesHaveMeaning
-replies_have_meaning = meaning.replies_have_meaning
+replies_have_meaning = replied.replies_have_meaning log_has_facts
 
 pub next_closes_shard : NextClosesShard
 next_closes_shard = code.next_closes_shard log_has_facts
