@@ -10,17 +10,17 @@ use Rattle.core_rules.specs.Applying.{Applies, Raises}
 use Rattle.core_rules.specs.LogFacts.{LogFacts, LogHasFacts}
 use Rattle.core_rules.specs.Parts.{ShardsAre, CountsAre, AppliedAre, DdlIs, mined_from}
 use Rattle.core_rules.specs.Invariant.{Invariant, Precise, WorkerIs}
-use Rattle.core_rules.proofs.Lists.{Has, has, contains, has-append_cases, at-set_cases, at-same, at-within, at-contains, contains-at, take-next, map-set_same}
-use Rattle.core_rules.proofs.Shares.{share-log}
+use Rattle.core_rules.proofs.Lists.{Has, has, contains, has_append_cases, at_set_cases, at_same, at_within, at_contains, contains_at, take_next, map_set_same}
+use Rattle.core_rules.proofs.Shares.{share_log}
 use Rattle.core_rules.proofs.Keeps.{Keeps, KeepsPrecise}
-use Rattle.core_rules.proofs.Crew.{IsIn, HoldMore, hold-same, applied-more, with_crew, counts_with, crew_keeps}
+use Rattle.core_rules.proofs.Crew.{IsIn, HoldMore, hold_same, applied_more, with_crew, counts_with, crew_keeps}
 
 -- a shard with one entry more
 abbrev one_more : Shard → LogEntry → Shard
 one_more s e = record s { applied = max s.applied (e.pos + 1) }
 
 more_held : (shards : List Shard) (place : ℕ) (s : Shard) (e : LogEntry) → At shards place s → HoldMore shards (slice_set shards place (one_more s e))
-more_held shards place s e at n x h = either (at-set_cases shards place n x (one_more s e) h)
+more_held shards place s e at n x h = either (at_set_cases shards place n x (one_more s e) h)
   where
     either : ((n ≡ place) × (x ≡ one_more s e)) ⊎ ((n ≡ place → ⊥) × At shards n x) → (was : Shard) × At shards n was × (was.applied ≤ x.applied)
     either (inl p) =
@@ -31,10 +31,10 @@ more_held shards place s e at n x h = either (at-set_cases shards place n x (one
 -- the entry lies in the log
 own_pos : (c : CoreState) → LogHasFacts → Invariant c → (worker n : ℕ) (e : LogEntry) → At (share_of c worker) n e → e.pos < length c.log
 own_pos c facts v worker n e h =
-    let there = share-log (length c.workers) worker c.log e (at-contains (share_of c worker) n e h) in
-    let at = contains-at c.log e there in
+    let there = share_log (length c.workers) worker c.log e (at_contains (share_of c worker) n e h) in
+    let at = contains_at c.log e there in
     let same : e.pos ≡ at.0 = (facts c.log c.frontier v.log).positions at.0 e at.1 in
-    let within : at.0 < length c.log = at-within c.log at.0 e at.1 in
+    let within : at.0 < length c.log = at_within c.log at.0 e at.1 in
     omega arith
 
 pub apply_keeps : (worker : ℕ) → Keeps (λ c new. Applies c worker new)
@@ -52,7 +52,7 @@ apply_keeps worker facts c new r v = subst Invariant (sym r.effect) (crew_keeps 
     shards_are = record { count = length-set c.shards r.place (one_more r.shard r.entry) ∙ v.shards.count; within = within; floor = floor }
       where
         within : (n : ℕ) (s : Shard) → At shards n s → s.applied ≤ length c.log
-        within n s h = either (at-set_cases c.shards r.place n s (one_more r.shard r.entry) h)
+        within n s h = either (at_set_cases c.shards r.place n s (one_more r.shard r.entry) h)
           where
             either : ((n ≡ r.place) × (s ≡ one_more r.shard r.entry)) ⊎ ((n ≡ r.place → ⊥) × At c.shards n s) → s.applied ≤ length c.log
             either (inl p) =
@@ -62,20 +62,20 @@ apply_keeps worker facts c new r v = subst Invariant (sym r.effect) (crew_keeps 
                 omega arith
             either (inr p) = v.shards.within n s p.1
         floor : (n : ℕ) (s : Shard) → At shards n s → s.floor ≡ 0
-        floor n s h = either (at-set_cases c.shards r.place n s (one_more r.shard r.entry) h)
+        floor n s h = either (at_set_cases c.shards r.place n s (one_more r.shard r.entry) h)
           where
             either : ((n ≡ r.place) × (s ≡ one_more r.shard r.entry)) ⊎ ((n ≡ r.place → ⊥) × At c.shards n s) → s.floor ≡ 0
             either (inl p) = ap (λ (y : Shard). y.floor) p.1 ∙ v.shards.floor r.place r.shard r.at
             either (inr p) = v.shards.floor n s p.1
     applied : AppliedAre (take (r.was.applied + 1) (share_of c worker)) shards
     applied e h n s own at =
-        either (has-append_cases (take r.was.applied (share_of c worker)) (r.entry ∷ []) e
-          (subst (λ es. Has es e) (take-next (share_of c worker) r.was.applied r.entry r.next) (has (take (r.was.applied + 1) (share_of c worker)) e h)))
+        either (has_append_cases (take r.was.applied (share_of c worker)) (r.entry ∷ []) e
+          (subst (λ es. Has es e) (take_next (share_of c worker) r.was.applied r.entry r.next) (has (take (r.was.applied + 1) (share_of c worker)) e h)))
       where
         either : Has (take r.was.applied (share_of c worker)) e ⊎ Has (r.entry ∷ []) e → e.pos < s.applied
-        either (inl k) = applied-more (take r.was.applied (share_of c worker)) c.shards shards more was_is.applied e (contains (take r.was.applied (share_of c worker)) e k) n s own at
+        either (inl k) = applied_more (take r.was.applied (share_of c worker)) c.shards shards more was_is.applied e (contains (take r.was.applied (share_of c worker)) e k) n s own at
         either (inr (inr k)) = absurd k
-        either (inr (inl k)) = set_one (at-set_cases c.shards r.place n s (one_more r.shard r.entry) at)
+        either (inr (inl k)) = set_one (at_set_cases c.shards r.place n s (one_more r.shard r.entry) at)
           where
             places : Some r.place ≡ Some n
             places = sym r.own ∙ ap (λ (y : LogEntry). shard_of_vector y.vector) k ∙ own
@@ -89,7 +89,7 @@ apply_keeps worker facts c new r v = subst Invariant (sym r.effect) (crew_keeps 
     is = record {
       counts = record {
         behind = let b : r.was.mined ≤ r.was.applied = was_is.counts.behind in omega arith;
-        within = let b : r.was.applied < length (share_of c worker) = at-within (share_of c worker) r.was.applied r.entry r.next in omega arith;
+        within = let b : r.was.applied < length (share_of c worker) = at_within (share_of c worker) r.was.applied r.entry r.next in omega arith;
         above = was_is.counts.above;
       };
       progress = was_is.progress;
@@ -98,13 +98,13 @@ apply_keeps worker facts c new r v = subst Invariant (sym r.effect) (crew_keeps 
       partition = was_is.partition;
     }
     ddl : DdlIs (limit c) (mined_from (length c.workers) 0 c.log (counts_with c worker x)) c.ddl
-    ddl = subst (λ ns. DdlIs (limit c) (mined_from (length c.workers) 0 c.log ns) c.ddl) (sym (map-set_same (λ (w : Worker). w.mined) c.workers worker r.was x r.found refl)) v.ddl
+    ddl = subst (λ ns. DdlIs (limit c) (mined_from (length c.workers) 0 c.log ns) c.ddl) (sym (map_set_same (λ (w : Worker). w.mined) c.workers worker r.was x r.found refl)) v.ddl
 
 pub apply_precise : (worker : ℕ) → KeepsPrecise (λ c new. Applies c worker new)
 apply_precise worker facts c new r v p = subst Precise (sym r.effect) p
 
 pub raise_keeps : (worker through : ℕ) → Keeps (λ c new. Raises c worker through new)
-raise_keeps worker through facts c new r v = subst Invariant (sym r.effect) (crew_keeps c worker x c.shards c.ddl v v.shards (hold-same c.shards) is ddl)
+raise_keeps worker through facts c new r v = subst Invariant (sym r.effect) (crew_keeps c worker x c.shards c.ddl v v.shards (hold_same c.shards) is ddl)
   where
     x : Worker
     x = record r.was { progress = through }
@@ -125,7 +125,7 @@ raise_keeps worker through facts c new r v = subst Invariant (sym r.effect) (cre
       partition = was_is.partition;
     }
     ddl : DdlIs (limit c) (mined_from (length c.workers) 0 c.log (counts_with c worker x)) c.ddl
-    ddl = subst (λ ns. DdlIs (limit c) (mined_from (length c.workers) 0 c.log ns) c.ddl) (sym (map-set_same (λ (w : Worker). w.mined) c.workers worker r.was x r.found refl)) v.ddl
+    ddl = subst (λ ns. DdlIs (limit c) (mined_from (length c.workers) 0 c.log ns) c.ddl) (sym (map_set_same (λ (w : Worker). w.mined) c.workers worker r.was x r.found refl)) v.ddl
 
 pub raise_precise : (worker through : ℕ) → KeepsPrecise (λ c new. Raises c worker through new)
 raise_precise worker through facts c new r v p = subst Precise (sym r.effect) p

@@ -17,21 +17,21 @@ use Rattle.core_rules.specs.Flush.{BeginsFlush, cut_worker, nodes_upto, unclaime
 use Rattle.core_rules.specs.LogFacts.{LogFacts, LogHasFacts}
 use Rattle.core_rules.specs.Parts.{QuiesceIs, IsGone, PartitionIs, AreByScn, DdlIs, mined_from, is_within, flush_nodes, flush_ddl, flush_items, ItemsAre, items_of, ClaimsAre, stages_of, AllCollected}
 use Rattle.core_rules.specs.Invariant.{Invariant, WorkerIs, AllUnits}
-use Rattle.core_rules.proofs.Lists.{Has, has, contains, at-exists, at-map_back, has-filter_map_back, has-map_back, each-has, each-at, each-weaker}
-use Rattle.core_rules.proofs.Shares.{IsNodeOf, node-is}
+use Rattle.core_rules.proofs.Lists.{Has, has, contains, at_exists, at_map_back, has_filter_map_back, has_map_back, each_has, each_at, each_weaker}
+use Rattle.core_rules.proofs.Shares.{IsNodeOf, node_is}
 use Rattle.core_rules.proofs.Keeps.{Keeps, KeepsPart}
 use Rattle.core_rules.proofs.Items.{item_of_node}
-use Rattle.core_rules.proofs.Crew.{WorkerAt, worker-is}
-use Rattle.core_rules.proofs.Restarted.{filter-none}
+use Rattle.core_rules.proofs.Crew.{WorkerAt, worker_is}
+use Rattle.core_rules.proofs.Restarted.{filter_none}
 use Rattle.core_rules.proofs.MinedEntry.{ddl_scn}
 use Rattle.core_rules.proofs.Permuted.{filter_permuted}
 use Rattle.core_rules.proofs.Staged.{area_gone}
-use Rattle.core_rules.proofs.Once.{count-append, count-none, count-filter, count-map, count-filter_map, two-counted, end_once}
+use Rattle.core_rules.proofs.Once.{count_append, count_none, count_filter, count_map, count_filter_map, two_counted, end_once}
 
 -- two tests one after the other
-filter-both : {X : Type 0} (p q : X → Bool) (xs : List X) → filter (λ x. p x && q x) xs ≡ filter q (filter p xs)
-filter-both p q [] = refl
-filter-both p q (x ∷ xs) = by_test (p x) (filter-both p q xs)
+filter_both : {X : Type 0} (p q : X → Bool) (xs : List X) → filter (λ x. p x && q x) xs ≡ filter q (filter p xs)
+filter_both p q [] = refl
+filter_both p q (x ∷ xs) = by_test (p x) (filter_both p q xs)
   where
     by_test : (b : Bool) → filter (λ y. p y && q y) xs ≡ filter q (filter p xs)
         → cond (b && q x) (x ∷ filter (λ y. p y && q y) xs) (filter (λ y. p y && q y) xs) ≡ filter q (cond b (x ∷ filter p xs) (filter p xs))
@@ -39,9 +39,9 @@ filter-both p q (x ∷ xs) = by_test (p x) (filter-both p q xs)
     by_test false ih = ih
 
 -- a test that passes less makes the other needless
-pub filter-stronger : {X : Type 0} (p q : X → Bool) (xs : List X) → ((x : X) → q x ≡ true → p x ≡ true) → filter q (filter p xs) ≡ filter q xs
-filter-stronger p q [] h = refl
-filter-stronger p q (x ∷ xs) h = by_test (p x) refl (filter-stronger p q xs h)
+pub filter_stronger : {X : Type 0} (p q : X → Bool) (xs : List X) → ((x : X) → q x ≡ true → p x ≡ true) → filter q (filter p xs) ≡ filter q xs
+filter_stronger p q [] h = refl
+filter_stronger p q (x ∷ xs) h = by_test (p x) refl (filter_stronger p q xs h)
   where
     by_test : (b : Bool) → p x ≡ b → filter q (filter p xs) ≡ filter q xs → filter q (cond b (x ∷ filter p xs) (filter p xs)) ≡ cond (q x) (x ∷ filter q xs) (filter q xs)
     by_test true e ih = ap (λ ys. cond (q x) (x ∷ ys) ys) ih
@@ -62,21 +62,21 @@ cut_part g scn same low high m entries h =
     ap (λ es. filter (λ y. is_within low high (scn y)) (filter_map g es)) (sym (take-append-drop m entries))
     ∙ ap (filter (λ y. is_within low high (scn y))) (filter_map-append g (take m entries) (drop m entries))
     ∙ filter-append (λ y. is_within low high (scn y)) (filter_map g (take m entries)) (filter_map g (drop m entries))
-    ∙ ap (λ ys. filter (λ y. is_within low high (scn y)) (filter_map g (take m entries)) ++ ys) (filter-none (λ y. is_within low high (scn y)) (filter_map g (drop m entries)) above)
+    ∙ ap (λ ys. filter (λ y. is_within low high (scn y)) (filter_map g (take m entries)) ++ ys) (filter_none (λ y. is_within low high (scn y)) (filter_map g (drop m entries)) above)
     ∙ append-nil (filter (λ y. is_within low high (scn y)) (filter_map g (take m entries)))
-    ∙ filter-both (λ y. nat_lt low (scn y)) (λ y. nat_le (scn y) high) (filter_map g (take m entries))
+    ∙ filter_both (λ y. nat_lt low (scn y)) (λ y. nat_le (scn y) high) (filter_map g (take m entries))
   where
     above : (y : _) → Has (filter_map g (drop m entries)) y → is_within low high (scn y) ≡ false
     above y k = by_test (is_within low high (scn y)) refl
       where
         r : (e : LogEntry) × Has (drop m entries) e × (g e ≡ Some y)
-        r = has-filter_map_back g (drop m entries) y k
+        r = has_filter_map_back g (drop m entries) y k
         by_test : (b : Bool) → is_within low high (scn y) ≡ b → b ≡ false
         by_test false e = refl
         by_test true e =
             let p = and_parts (nat_lt low (scn y)) (nat_le (scn y) high) e in
             let upto : scn y ≤ high = leb-true (scn y) high p.1 in
-            let over : high < r.0.scn = each-has (λ (x : LogEntry). high < x.scn) (drop m entries) r.0 h r.1 in
+            let over : high < r.0.scn = each_has (λ (x : LogEntry). high < x.scn) (drop m entries) r.0 h r.1 in
             let scns : scn y ≡ r.0.scn = same r.0 y r.2 in
             absurd (omega arith)
 
@@ -99,7 +99,7 @@ cut_head : (log : List LogEntry) (born query through workers place : ℕ) (w : W
 cut_head log born query through workers place w ws h = let e : place + 0 ≡ place = omega arith in subst (λ n. CutsRight log born query through workers n w) e (h 0 w refl)
 
 node_scn : (log : List LogEntry) (born : ℕ) (e : LogEntry) (n : Node) → node_of (begun_above log born) e ≡ Some n → n.scn ≡ e.scn
-node_scn log born e n h = (node-is (begun_above log born) e n h).scn
+node_scn log born e n h = (node_is (begun_above log born) e n h).scn
 
 pub nodes_cut : (log : List LogEntry) (born query through workers place : ℕ) (ws : List Worker) → CutRight log born query through workers place ws
     → flush_nodes log born query through (flat_map (λ w. share workers w log) (range_with_len place (length ws))) ≡ nodes_upto through ws
@@ -145,17 +145,17 @@ ddl_cut log born query through workers place (w ∷ ws) h =
 pub one_item : (log : List LogEntry) (frontier born low high workers t : ℕ) → LogFacts log frontier → 0 < workers → count_by (is_item_of t) (flush_items log born low high (shares workers log)) ≤ 1
 one_item log frontier born low high workers t facts manned =
     let ends_once = end_once log frontier workers t facts manned in
-    let in_nodes = count-filter_map (λ (n : Node). n.txn == t) (λ (e : LogEntry). ends t e.vector) (node_of (begun_above log born)) (shares workers log) node_ends in
-    let cut = count-filter (λ (n : Node). n.txn == t) (λ (n : Node). is_within low high n.scn) (nodes_of log born (shares workers log)) in
-    let as_items = count-map (is_item_of t) (λ (n : Node). n.txn == t) node_item (flush_nodes log born low high (shares workers log)) (λ n h. eq-eqb n.txn t (item_of_node t n h)) in
-    let no_ddl = count-none (is_item_of t) (map ddl_item (flush_ddl low high (shares workers log))) ddl_none in
-    let all = count-append (is_item_of t) (map node_item (flush_nodes log born low high (shares workers log))) (map ddl_item (flush_ddl low high (shares workers log))) in
+    let in_nodes = count_filter_map (λ (n : Node). n.txn == t) (λ (e : LogEntry). ends t e.vector) (node_of (begun_above log born)) (shares workers log) node_ends in
+    let cut = count_filter (λ (n : Node). n.txn == t) (λ (n : Node). is_within low high n.scn) (nodes_of log born (shares workers log)) in
+    let as_items = count_map (is_item_of t) (λ (n : Node). n.txn == t) node_item (flush_nodes log born low high (shares workers log)) (λ n h. eq-eqb n.txn t (item_of_node t n h)) in
+    let no_ddl = count_none (is_item_of t) (map ddl_item (flush_ddl low high (shares workers log))) ddl_none in
+    let all = count_append (is_item_of t) (map node_item (flush_nodes log born low high (shares workers log))) (map ddl_item (flush_ddl low high (shares workers log))) in
     omega arith
   where
     node_ends : (e : LogEntry) (n : Node) → node_of (begun_above log born) e ≡ Some n → (n.txn == t) ≡ true → ends t e.vector ≡ true
-    node_ends e n h k = subst (λ m. ends m e.vector ≡ true) (eqb-true n.txn t k) (node-is (begun_above log born) e n h).end
+    node_ends e n h k = subst (λ m. ends m e.vector ≡ true) (eqb-true n.txn t k) (node_is (begun_above log born) e n h).end
     ddl_none : (i : Item) → Has (map ddl_item (flush_ddl low high (shares workers log))) i → is_item_of t i ≡ false
-    ddl_none i h = let m = has-map_back ddl_item (flush_ddl low high (shares workers log)) i h in subst (λ j. is_item_of t j ≡ false) m.2 refl
+    ddl_none i h = let m = has_map_back ddl_item (flush_ddl low high (shares workers log)) i h in subst (λ j. is_item_of t j ≡ false) m.2 refl
 
 -- nodes in their order stay so
 pub kept_order : (p : DdlNode → Bool) (ds : List DdlNode) → AreByScn ds → AreByScn (filter p ds)
@@ -183,8 +183,8 @@ same_mined through (w ∷ ws) = ap (λ ns. w.mined ∷ ns) (same_mined through w
 
 pub new_stage : (parts : List (List Item)) (n : ℕ) (s : Stage) → At (stages_of (map unclaimed parts)) n s → s ≡ Unclaimed
 new_stage parts n s h =
-    let l = at-map_back (λ (x : Link). x.stage) (map unclaimed parts) n s h in
-    let p = at-map_back unclaimed parts n l.0 l.1 in
+    let l = at_map_back (λ (x : Link). x.stage) (map unclaimed parts) n s h in
+    let p = at_map_back unclaimed parts n l.0 l.1 in
     sym l.2 ∙ ap (λ (x : Link). x.stage) (sym p.2)
 
 pub new_claims : (workers : ℕ) (parts : List (List Item)) → ClaimsAre workers (stages_of (map unclaimed parts))
@@ -196,6 +196,6 @@ new_claims workers parts = record {
 
 pub none_new : (log : List LogEntry) (born workers : ℕ) (parts : List (List Item)) → AllCollected log born workers (map unclaimed parts)
 none_new log born workers parts n l actor cursor collected h k =
-    let p = at-map_back unclaimed parts n l h in
+    let p = at_map_back unclaimed parts n l h in
     let e : Unclaimed ≡ Claimed actor cursor collected = ap (λ (x : Link). x.stage) p.2 ∙ k in
     absurd cc

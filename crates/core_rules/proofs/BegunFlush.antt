@@ -16,13 +16,13 @@ use Rattle.core_rules.specs.Flush.{BeginsFlush, cut_worker, nodes_upto, unclaime
 use Rattle.core_rules.specs.LogFacts.{LogFacts, LogHasFacts}
 use Rattle.core_rules.specs.Parts.{QuiesceIs, IsGone, PartitionIs, AreByScn, DdlIs, mined_from, flush_nodes, flush_ddl, flush_items, ItemsAre, items_of, ClaimsAre, stages_of, AllCollected}
 use Rattle.core_rules.specs.Invariant.{Invariant, WorkerIs, AllUnits}
-use Rattle.core_rules.proofs.Lists.{at-exists, at-map_back, each-at, each-weaker}
+use Rattle.core_rules.proofs.Lists.{at_exists, at_map_back, each_at, each_weaker}
 use Rattle.core_rules.proofs.Keeps.{Keeps, KeepsPart}
-use Rattle.core_rules.proofs.Crew.{WorkerAt, worker-is}
+use Rattle.core_rules.proofs.Crew.{WorkerAt, worker_is}
 use Rattle.core_rules.proofs.Permuted.{filter_permuted}
 use Rattle.core_rules.proofs.Staged.{area_gone}
-use Rattle.core_rules.proofs.Once.{two-counted}
-use Rattle.core_rules.proofs.Begun.{filter-stronger, above_more, CutsRight, CutRight, nodes_cut, ddl_cut, one_item, kept_order, same_parts, same_mined, new_stage, new_claims, none_new}
+use Rattle.core_rules.proofs.Once.{two_counted}
+use Rattle.core_rules.proofs.Begun.{filter_stronger, above_more, CutsRight, CutRight, nodes_cut, ddl_cut, one_item, kept_order, same_parts, same_mined, new_stage, new_claims, none_new}
 
 -- The state at the begin of a flush: nothing is cut beyond the QuerySCN, and nobody holds publication back.
 pub record IsCalm (c : CoreState) : Type 0 where
@@ -37,7 +37,7 @@ calm c v h =
 
 -- what is above the SCN of a flush
 above_through : (low high : ℕ) (entries : List LogEntry) → high ≤ low → AllByRecursion (λ (e : LogEntry). low < e.scn) entries → AllByRecursion (λ (e : LogEntry). high < e.scn) entries
-above_through low high entries l h = each-weaker (λ (e : LogEntry). low < e.scn) (λ (e : LogEntry). high < e.scn) entries (λ e k. omega arith) h
+above_through low high entries l h = each_weaker (λ (e : LogEntry). low < e.scn) (λ (e : LogEntry). high < e.scn) entries (λ e k. omega arith) h
 
 cuts_right : (c : CoreState) → Invariant c → (through : ℕ) → c.query < through → AllByRecursion (λ (w : Worker). through ≤ w.progress) c.workers → limit c ≡ c.query
     → CutRight c.log c.born c.query through (length c.workers) 0 c.workers
@@ -46,7 +46,7 @@ cuts_right c v through l reached uncut i w h =
     let zero_more : i ≡ 0 + i = omega arith in
     subst (λ n. CutsRight c.log c.born c.query through (length c.workers) n w) zero_more (record {
       partition = subst (λ low. PartitionIs c.log c.born low (take w.mined (share_of c i)) w.ends) uncut is.partition;
-      above = above_through w.progress through (drop w.mined (share_of c i)) (each-at (λ (x : Worker). through ≤ x.progress) c.workers i w reached h) is.counts.above;
+      above = above_through w.progress through (drop w.mined (share_of c i)) (each_at (λ (x : Worker). through ≤ x.progress) c.workers i w reached h) is.counts.above;
     })
 
 pub begin_flush_keeps : (through : ℕ) → KeepsPart AllUnits (λ c new. BeginsFlush c through new) → Keeps (λ c new. BeginsFlush c through new)
@@ -56,7 +56,7 @@ begin_flush_keeps through units facts c new r v = subst Invariant (sym r.effect)
     restarted = v.numbers.restarted;
     published = let l : c.query < through = above in omega arith;
     cut =
-      let progress : through ≤ first.0.progress = each-at (λ (x : Worker). through ≤ x.progress) c.workers 0 first.0 r.can.reached first.1 in
+      let progress : through ≤ first.0.progress = each_at (λ (x : Worker). through ≤ x.progress) c.workers 0 first.0 r.can.reached first.1 in
       let received : first.0.progress ≤ c.frontier = (v.workers 0 first.0 first.1).progress.received in
       omega arith;
   };
@@ -87,7 +87,7 @@ begin_flush_keeps through units facts c new r v = subst Invariant (sym r.effect)
     idle : IsCalm c
     idle = calm c v r.can.idle
     first : (w : Worker) × At c.workers 0 w
-    first = at-exists c.workers 0 v.manned
+    first = at_exists c.workers 0 v.manned
     as_many : length workers ≡ length c.workers
     as_many = length-map c.workers (cut_worker through)
     cut : CutRight c.log c.born c.query through (length c.workers) 0 c.workers
@@ -96,28 +96,28 @@ begin_flush_keeps through units facts c new r v = subst Invariant (sym r.effect)
     back : (place t : ℕ) → IsGone c.log c.born c.query links place t → IsGone c.log c.born c.query c.links place t
     back place t (inl e) = inl e
     back place t (inr p) =
-        let m = at-map_back unclaimed r.parts p.number p.link p.found in
+        let m = at_map_back unclaimed r.parts p.number p.link p.found in
         absurd (true≢false (sym p.past ∙ sym (ap (λ (l : Link). is_past place l.stage) m.2)))
     on : (place t : ℕ) → IsGone c.log c.born c.query c.links place t → IsGone c.log c.born c.query links place t
     on place t (inl e) = inl e
     on place t (inr p) = let e : None ≡ Some p.link = subst (λ ls. At ls p.number p.link) idle.no_links p.found in absurd cc
     each_worker : (n : ℕ) (w : Worker) → At workers n w → WorkerIs (record c { workers = workers; ddl = filter (λ (d : DdlNode). nat_lt through d.scn) c.ddl; quiesce = Flushing through; links = links }) n w
-    each_worker n w h = worker-is (record c { workers = workers; ddl = filter (λ (d : DdlNode). nat_lt through d.scn) c.ddl; quiesce = Flushing through; links = links }) (length c.workers) n w as_many
+    each_worker n w h = worker_is (record c { workers = workers; ddl = filter (λ (d : DdlNode). nat_lt through d.scn) c.ddl; quiesce = Flushing through; links = links }) (length c.workers) n w as_many
       (subst (λ x. WorkerAt (length c.workers) through c.frontier c.log c.born c.query links c.shards n x) was.2 (cut_is was.0 was.1))
       where
         was : (x : Worker) × At c.workers n x × (cut_worker through x ≡ w)
-        was = at-map_back (cut_worker through) c.workers n w h
+        was = at_map_back (cut_worker through) c.workers n w h
         cut_is : (x : Worker) → At c.workers n x → WorkerAt (length c.workers) through c.frontier c.log c.born c.query links c.shards n (cut_worker through x)
         cut_is x at =
             let is = v.workers n x at in
             record {
               counts = record { behind = is.counts.behind; within = is.counts.within; above = is.counts.above };
-              progress = record { reached = each-at (λ (y : Worker). through ≤ y.progress) c.workers n x r.can.reached at; received = is.progress.received };
+              progress = record { reached = each_at (λ (y : Worker). through ≤ y.progress) c.workers n x r.can.reached at; received = is.progress.received };
               applied = is.applied;
               area = area_gone c.log c.born c.query c.query c.links links n (take x.mined (share_of c n)) x.area (back n) (on n) is.area;
               partition =
                 ap (filter (λ (m : Node). nat_lt through m.scn)) (subst (λ low. PartitionIs c.log c.born low (take x.mined (share_of c n)) x.ends) idle.uncut is.partition)
-                ∙ filter-stronger (λ (m : Node). nat_lt c.query m.scn) (λ (m : Node). nat_lt through m.scn) (nodes_of c.log c.born (take x.mined (share_of c n)))
+                ∙ filter_stronger (λ (m : Node). nat_lt c.query m.scn) (λ (m : Node). nat_lt through m.scn) (nodes_of c.log c.born (take x.mined (share_of c n)))
                   (λ m k. above_more c.query through m.scn above k);
             }
     -- changes of definitions
@@ -129,7 +129,7 @@ begin_flush_keeps through units facts c new r v = subst Invariant (sym r.effect)
     ddl_is = subst (λ n. DdlIs through (mined_from n 0 c.log (map (λ (w : Worker). w.mined) workers)) (filter (λ (d : DdlNode). nat_lt through d.scn) c.ddl)) (sym as_many)
       (subst (λ ns. DdlIs through (mined_from (length c.workers) 0 c.log ns) (filter (λ (d : DdlNode). nat_lt through d.scn) c.ddl)) (sym (same_mined through c.workers)) (record {
         same = subst (λ ds. IsPermutation ds (filter (λ (d : DdlNode). nat_lt through d.scn) c.ddl))
-          (filter-stronger (λ (d : DdlNode). nat_lt c.query d.scn) (λ (d : DdlNode). nat_lt through d.scn) (ddl_in mined) (λ d k. above_more c.query through d.scn above k))
+          (filter_stronger (λ (d : DdlNode). nat_lt c.query d.scn) (λ (d : DdlNode). nat_lt through d.scn) (ddl_in mined) (λ d k. above_more c.query through d.scn above k))
           (filter_permuted (λ (d : DdlNode). nat_lt through d.scn) (filter (λ (d : DdlNode). nat_lt c.query d.scn) (ddl_in mined)) c.ddl ddl_same);
         order = kept_order (λ (d : DdlNode). nat_lt through d.scn) c.ddl v.ddl.order;
       }))
@@ -166,10 +166,10 @@ begin_flush_keeps through units facts c new r v = subst Invariant (sym r.effect)
             by_order : (i ≡ j) ⊎ ((i < j) ⊎ (j < i)) → i ≡ j
             by_order (inl e) = e
             by_order (inr (inl l)) =
-                let two = two-counted (is_item_of t) r.parts i j x y l h k u w in
+                let two = two_counted (is_item_of t) r.parts i j x y l h k u w in
                 let one = few t in
                 absurd (omega arith)
             by_order (inr (inr l)) =
-                let two = two-counted (is_item_of t) r.parts j i y x l k h w u in
+                let two = two_counted (is_item_of t) r.parts j i y x l k h w u in
                 let one = few t in
                 absurd (omega arith)

@@ -10,9 +10,9 @@ use Rattle.core_rules.specs.Flush.{Claims, Touches, IsTouched, IsKeptMarked, IsM
 use Rattle.core_rules.specs.Parts.{CollectedAre, NotedBelow, stages_of}
 use Rattle.core_rules.specs.UnitParts.{HasItsUnits}
 use Rattle.core_rules.specs.Invariant.{Invariant, AllUnits}
-use Rattle.core_rules.proofs.Lists.{at-within, at-contains, at-map, at-map_back, any-false, not-both, has}
+use Rattle.core_rules.proofs.Lists.{at_within, at_contains, at_map, at_map_back, any_false, not_both, has}
 use Rattle.core_rules.proofs.Keeps.{Keeps, KeepsPart}
-use Rattle.core_rules.proofs.Crew.{WorkerAt, worker-at}
+use Rattle.core_rules.proofs.Crew.{WorkerAt, worker_at}
 use Rattle.core_rules.proofs.UnitsPassed.{staged}
 use Rattle.core_rules.proofs.Staged.{StageFits, StagedIs, staged_keeps, area_staged, held_fits, none_earlier}
 
@@ -21,12 +21,12 @@ workers_staged : (c : CoreState) → Invariant c → (number : ℕ) (link : Link
     → ((place : ℕ) → place < length c.workers → is_past place stage ≡ is_past place link.stage)
     → (n : ℕ) (w : Worker) → At c.workers n w → WorkerAt (length c.workers) (limit c) c.frontier c.log c.born c.query (staged c.links number link stage) c.shards n w
 workers_staged c v number link stage found same n w h =
-    let is = worker-at c n w (v.workers n w h) in
+    let is = worker_at c n w (v.workers n w h) in
     record {
       counts = is.counts;
       progress = is.progress;
       applied = is.applied;
-      area = area_staged c.log c.born c.query c.links number link stage n _ w.area found (same n (at-within c.workers n w h)) is.area;
+      area = area_staged c.log c.born c.query c.links number link stage n _ w.area found (same n (at_within c.workers n w h)) is.area;
       partition = is.partition;
     }
 
@@ -37,7 +37,7 @@ claim_keeps actor units facts c new r v =
     stage : Stage
     stage = Claimed actor 0 []
     at : At (stages_of c.links) r.number r.link.stage
-    at = at-map (λ (l : Link). l.stage) c.links r.number r.link r.first.found
+    at = at_map (λ (l : Link). l.stage) c.links r.number r.link r.first.found
     fits : StageFits (length c.workers) (stages_of c.links) r.number stage
     fits = record {
       alone = alone;
@@ -52,14 +52,14 @@ claim_keeps actor units facts c new r v =
       where
         alone : (a j : ℕ) (y : Stage) → is_held_by a stage ≡ true → (j ≡ r.number → ⊥) → At (stages_of c.links) j y → is_held_by a y ≡ true → ⊥
         alone a j y h d k u =
-            let back = at-map_back (λ (l : Link). l.stage) c.links j y k in
+            let back = at_map_back (λ (l : Link). l.stage) c.links j y k in
             let same : actor ≡ a = eqb-true actor a h in
             let held : is_held_by actor back.0.stage ≡ true = subst (λ b. is_held_by b back.0.stage ≡ true) (sym same) (subst (λ s. is_held_by a s ≡ true) (sym back.2) u) in
-            any-false (λ (l : Link). is_held_by actor l.stage) c.links back.0 r.can.free (at-contains c.links j back.0 back.1) held
+            any_false (λ (l : Link). is_held_by actor l.stage) c.links back.0 r.can.free (at_contains c.links j back.0 back.1) held
         earlier : (i : ℕ) (x : Stage) → i < r.number → At (stages_of c.links) i x → is_unclaimed x ≡ true → ⊥
         earlier i x l h u =
-            let back = at-map_back (λ (y : Link). y.stage) c.links i x h in
-            not-both (is_unclaimed back.0.stage) (subst (λ s. is_unclaimed s ≡ true) (sym back.2) u) (r.first.first i back.0 l back.1)
+            let back = at_map_back (λ (y : Link). y.stage) c.links i x h in
+            not_both (is_unclaimed back.0.stage) (subst (λ s. is_unclaimed s ≡ true) (sym back.2) u) (r.first.first i back.0 l back.1)
     never : (place : ℕ) → nat_lt place 0 ≡ false
     never place = by_test (nat_lt place 0) refl
       where

@@ -13,12 +13,12 @@ use Rattle.core_rules.specs.Flush.{Collects}
 use Rattle.core_rules.specs.LogFacts.{LogFacts, LogHasFacts}
 use Rattle.core_rules.specs.Parts.{AreaIs, IsGone, CollectedAre, NotedBelow, items_of}
 use Rattle.core_rules.specs.Invariant.{Invariant, WorkerIs, AllUnits}
-use Rattle.core_rules.proofs.Lists.{at-within, at-same, at-set_cases, at-set_same, at-map, map-set_same, contains-take, is-true, not-both}
-use Rattle.core_rules.proofs.Shares.{share-log, note-touches}
+use Rattle.core_rules.proofs.Lists.{at_within, at_same, at_set_cases, at_set_same, at_map, map_set_same, contains_take, is_true, not_both}
+use Rattle.core_rules.proofs.Shares.{share_log, note_touches}
 use Rattle.core_rules.proofs.Keeps.{Keeps, KeepsPart}
 use Rattle.core_rules.proofs.Items.{items_end, mined_below}
-use Rattle.core_rules.proofs.Crew.{WorkerAt, worker-at}
-use Rattle.core_rules.proofs.UnitsPassed.{staged, txn-passes}
+use Rattle.core_rules.proofs.Crew.{WorkerAt, worker_at}
+use Rattle.core_rules.proofs.UnitsPassed.{staged, txn_passes}
 use Rattle.core_rules.proofs.Staged.{StagedIs, staged_keeps, area_staged, held_fits, passes_on}
 
 -- at a place that is not the cursor the next cursor is past where the cursor was
@@ -54,10 +54,10 @@ noted_is_held c actor new facts v r t a h n = area.holds t a (record { entry = n
     end : EndedWithin c.log c.query (limit c) t
     end = items_end c v r.number r.link t r.has.found h
     there : Contains c.log n.entry
-    there = share-log (length c.workers) r.cursor c.log n.entry n.within
+    there = share_log (length c.workers) r.cursor c.log n.entry n.within
     mined : Contains (take r.was.mined (share_of c r.cursor)) n.entry
     mined =
-        let order = log.touched_to_end t a n.entry end.entry there end.within (note-touches c.log n.entry t a n.notes) end.end in
+        let order = log.touched_to_end t a n.entry end.entry there end.within (note_touches c.log n.entry t a n.notes) end.end in
         let before : n.entry.scn ≤ end.entry.scn = order.1 in
         let upto : end.entry.scn ≤ limit c = end.upto in
         let reached : limit c ≤ r.was.progress = is.progress.reached in
@@ -70,10 +70,10 @@ noted_is_held c actor new facts v r t a h n = area.holds t a (record { entry = n
         let high : c.query < end.entry.scn = end.above in
         absurd (omega arith)
     stays (inr p) =
-        let mine = at-map (λ (l : Link). l.items) c.links r.number r.link r.has.found in
-        let its = at-map (λ (l : Link). l.items) c.links p.number p.link p.found in
+        let mine = at_map (λ (l : Link). l.items) c.links r.number r.link r.has.found in
+        let its = at_map (λ (l : Link). l.items) c.links p.number p.link p.found in
         let one : p.number ≡ r.number = v.flush.items.together p.number r.number p.link.items r.link.items t its mine p.of h in
-        let same : p.link ≡ r.link = at-same c.links r.number p.link r.link (subst (λ i. At c.links i p.link) one p.found) r.has.found in
+        let same : p.link ≡ r.link = at_same c.links r.number p.link r.link (subst (λ i. At c.links i p.link) one p.found) r.has.found in
         let stage : p.link.stage ≡ Claimed actor r.cursor r.collected = ap (λ (l : Link). l.stage) same ∙ r.has.stage in
         not_past r.cursor (sym (ap (is_past r.cursor) stage) ∙ p.past)
 
@@ -96,13 +96,13 @@ collect_keeps actor units facts c new r v =
     old : AreaIs c.log c.born c.query c.links r.cursor entries r.was.area
     old = is.area
     known : r.cursor < length c.workers
-    known = at-within c.workers r.cursor r.was r.at
+    known = at_within c.workers r.cursor r.was r.at
     had : CollectedAre c.log c.born (length c.workers) r.link.items r.cursor r.collected
     had = v.flush.collected r.number r.link actor r.cursor r.collected r.has.found r.has.stage
     -- gone is what was gone, and what the worklink has
     gone_back : (t : ℕ) → IsGone c.log c.born c.query links r.cursor t → IsGone c.log c.born c.query c.links r.cursor t ⊎ (has_txn t r.link.items ≡ true)
     gone_back t (inl e) = inl (inl e)
-    gone_back t (inr p) = either (txn-passes c.links r.number r.link stage r.cursor t p)
+    gone_back t (inr p) = either (txn_passes c.links r.number r.link stage r.cursor t p)
       where
         either : PassesTxn c.links r.cursor t ⊎ ((is_past r.cursor stage ≡ true) × (has_txn t r.link.items ≡ true)) → IsGone c.log c.born c.query c.links r.cursor t ⊎ (has_txn t r.link.items ≡ true)
         either (inl q) = inl (inr q)
@@ -114,7 +114,7 @@ collect_keeps actor units facts c new r v =
     gone_now t h = inr (record {
       number = r.number;
       link = record r.link { stage = stage };
-      found = at-set_same c.links r.number (record r.link { stage = stage }) (at-within c.links r.number r.link r.has.found);
+      found = at_set_same c.links r.number (record r.link { stage = stage }) (at_within c.links r.number r.link r.has.found);
       past = lt-ltb r.cursor (r.cursor + 1) (omega arith);
       of = h;
     })
@@ -122,26 +122,26 @@ collect_keeps actor units facts c new r v =
     area_is = record {
       noted = λ t a h. old.noted t a (r.gives.places_only t a h).0;
       stays = λ t a h g. stays t a (r.gives.places_only t a h) (gone_back t g);
-      holds = λ t a n g. holds t a n g (is-true (has_txn t r.link.items));
+      holds = λ t a n g. holds t a n g (is_true (has_txn t r.link.items));
       begun = λ t h. old.begun t (r.gives.begins_only t h).0;
       begin_stays = λ t h g. begin_stays t (r.gives.begins_only t h) (gone_back t g);
-      holds_begin = λ t b g. holds_begin t b g (is-true (has_txn t r.link.items));
+      holds_begin = λ t b g. holds_begin t b g (is_true (has_txn t r.link.items));
     }
       where
         stays : (t : ℕ) (a : Place) → HoldsPlace r.was.area t a × (has_txn t r.link.items ≡ false) → IsGone c.log c.born c.query c.links r.cursor t ⊎ (has_txn t r.link.items ≡ true) → ⊥
         stays t a h (inl g) = old.stays t a h.0 g
-        stays t a h (inr k) = not-both (has_txn t r.link.items) k h.1
+        stays t a h (inr k) = not_both (has_txn t r.link.items) k h.1
         holds : (t : ℕ) (a : Place) → NotedIn c.log c.born entries t a → (IsGone c.log c.born c.query links r.cursor t → ⊥) → (has_txn t r.link.items ≡ true) ⊎ (has_txn t r.link.items ≡ false) → HoldsPlace r.area t a
         holds t a n g (inl k) = absurd (g (gone_now t k))
         holds t a n g (inr k) = r.gives.places_kept t a (old.holds t a n (λ h. g (gone_on t h))) k
         begin_stays : (t : ℕ) → HoldsBegin r.was.area t × (has_txn t r.link.items ≡ false) → IsGone c.log c.born c.query c.links r.cursor t ⊎ (has_txn t r.link.items ≡ true) → ⊥
         begin_stays t h (inl g) = old.begin_stays t h.0 g
-        begin_stays t h (inr k) = not-both (has_txn t r.link.items) k h.1
+        begin_stays t h (inr k) = not_both (has_txn t r.link.items) k h.1
         holds_begin : (t : ℕ) → BegunIn c.born entries t → (IsGone c.log c.born c.query links r.cursor t → ⊥) → (has_txn t r.link.items ≡ true) ⊎ (has_txn t r.link.items ≡ false) → HoldsBegin r.area t
         holds_begin t b g (inl k) = absurd (g (gone_now t k))
         holds_begin t b g (inr k) = r.gives.begins_kept t (old.holds_begin t b (λ h. g (gone_on t h))) k
     each : (n : ℕ) (w : Worker) → At workers n w → WorkerAt (length c.workers) (limit c) c.frontier c.log c.born c.query links c.shards n w
-    each n w h = either (at-set_cases c.workers r.cursor n w x h)
+    each n w h = either (at_set_cases c.workers r.cursor n w x h)
       where
         either : ((n ≡ r.cursor) × (w ≡ x)) ⊎ ((n ≡ r.cursor → ⊥) × At c.workers n w) → WorkerAt (length c.workers) (limit c) c.frontier c.log c.born c.query links c.shards n w
         either (inl p) =
@@ -149,7 +149,7 @@ collect_keeps actor units facts c new r v =
               (subst (λ y. WorkerAt (length c.workers) (limit c) c.frontier c.log c.born c.query links c.shards r.cursor y) (sym p.1)
                 (record { counts = is.counts; progress = is.progress; applied = is.applied; area = area_is; partition = is.partition }))
         either (inr p) =
-            let k = worker-at c n w (v.workers n w p.1) in
+            let k = worker_at c n w (v.workers n w p.1) in
             record {
               counts = k.counts;
               progress = k.progress;
@@ -175,7 +175,7 @@ collect_keeps actor units facts c new r v =
               worker = r.cursor;
               known = known;
               below = omega arith;
-              noted = record { entry = n.entry; within = contains-take r.was.mined (share_of c r.cursor) n.entry n.within; above = n.above; notes = n.notes };
+              noted = record { entry = n.entry; within = contains_take r.was.mined (share_of c r.cursor) n.entry n.within; above = n.above; notes = n.notes };
             }
         all : (t : ℕ) (a : Place) → has_txn t r.link.items ≡ true → NotedBelow c.log c.born (length c.workers) (r.cursor + 1) t a → HasCollected r.more t a
         all t a h n = either (cases_eq n.worker r.cursor)
@@ -197,7 +197,7 @@ collect_keeps actor units facts c new r v =
         subst (λ n. CollectedAre c.log c.born (length c.workers) r.link.items n xs) cursors
           (subst (λ ys. CollectedAre c.log c.born (length c.workers) r.link.items (r.cursor + 1) ys) lists later);
       as_many = length-set c.workers r.cursor x;
-      mined = map-set_same (λ (w : Worker). w.mined) c.workers r.cursor r.was x r.at refl;
+      mined = map_set_same (λ (w : Worker). w.mined) c.workers r.cursor r.was x r.at refl;
       each = each;
       tied = v.tied;
     }

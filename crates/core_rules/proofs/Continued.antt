@@ -22,9 +22,9 @@ use Rattle.core_rules.specs.Share.{is_shared_by, share, ends, begun_above, node_
 use Rattle.core_rules.specs.State.{At}
 use Rattle.core_rules.specs.LogFacts.{IsLog, LogFacts}
 use Rattle.core_rules.specs.Parts.{mined_from}
-use Rattle.core_rules.proofs.Lists.{Has, has, contains, has-append_left, has-append_cases, has-filter_back, has-filter_map_back, each-has, each-weaker, contains-filter_map, contains-filter_map_back}
-use Rattle.core_rules.proofs.Shares.{begun-entry, entry-begun}
-use Rattle.core_rules.proofs.Restarted.{filter-none}
+use Rattle.core_rules.proofs.Lists.{Has, has, contains, has_append_left, has_append_cases, has_filter_back, has_filter_map_back, each_has, each_weaker, contains_filter_map, contains_filter_map_back}
+use Rattle.core_rules.proofs.Shares.{begun_entry, entry_begun}
+use Rattle.core_rules.proofs.Restarted.{filter_none}
 use Rattle.core_rules.proofs.FactsOrder.{scns_above, scns_append, received}
 
 -- maps that agree
@@ -77,16 +77,16 @@ module _ (log entries : List LogEntry) (old new : ℕ) (is : IsLog log old) (mor
 
   -- new entries are above the old frontier, and what is not above it was there
   pub new_above : AllByRecursion (λ e. old < e.scn) entries
-  new_above = each-weaker (λ (e : LogEntry). old + 1 ≤ e.scn) (λ (e : LogEntry). old < e.scn) entries (λ e h. omega arith) (scns_above (old + 1) new entries more.scns)
+  new_above = each_weaker (λ (e : LogEntry). old + 1 ≤ e.scn) (λ (e : LogEntry). old < e.scn) entries (λ e h. omega arith) (scns_above (old + 1) new entries more.scns)
 
   pub new_is_above : (e : LogEntry) → Has entries e → old < e.scn
-  new_is_above e h = each-has (λ (x : LogEntry). old < x.scn) entries e new_above h
+  new_is_above e h = each_has (λ (x : LogEntry). old < x.scn) entries e new_above h
 
   pub stays_within : (e : LogEntry) → Contains log e → Contains (log ++ entries) e
-  stays_within e h = contains (log ++ entries) e (has-append_left log entries e (has log e h))
+  stays_within e h = contains (log ++ entries) e (has_append_left log entries e (has log e h))
 
   pub was_within : (e : LogEntry) → Contains (log ++ entries) e → e.scn ≤ old → Contains log e
-  was_within e h l = either (has-append_cases log entries e (has (log ++ entries) e h))
+  was_within e h l = either (has_append_cases log entries e (has (log ++ entries) e h))
     where
       either : Has log e ⊎ Has entries e → Contains log e
       either (inl k) = contains log e k
@@ -94,10 +94,10 @@ module _ (log entries : List LogEntry) (old new : ℕ) (is : IsLog log old) (mor
 
   -- definitions, rows and what is mined stay
   pub tables_stay : (scn : ℕ) → scn ≤ old → table_at (log ++ entries) scn ≡ table_at log scn
-  tables_stay scn l = (rows_stop_at_scn log entries scn (each-weaker (λ (e : LogEntry). old < e.scn) (λ (e : LogEntry). scn < e.scn) entries (λ e h. omega arith) new_above)).1
+  tables_stay scn l = (rows_stop_at_scn log entries scn (each_weaker (λ (e : LogEntry). old < e.scn) (λ (e : LogEntry). scn < e.scn) entries (λ e h. omega arith) new_above)).1
 
   pub rows_stay : (scn : ℕ) → scn ≤ old → rows_at (log ++ entries) scn ≡ rows_at log scn
-  rows_stay scn l = (rows_stop_at_scn log entries scn (each-weaker (λ (e : LogEntry). old < e.scn) (λ (e : LogEntry). scn < e.scn) entries (λ e h. omega arith) new_above)).0
+  rows_stay scn l = (rows_stop_at_scn log entries scn (each_weaker (λ (e : LogEntry). old < e.scn) (λ (e : LogEntry). scn < e.scn) entries (λ e h. omega arith) new_above)).0
 
   pub mined_stays : (e : LogEntry) → Contains log e → mined_of (log ++ entries) e ≡ mined_of log e
   mined_stays e h = same_mined log (log ++ entries) e.scn e.vector (tables_stay e.scn (received log old is e h))
@@ -136,10 +136,10 @@ module _ (log entries : List LogEntry) (old new : ℕ) (is : IsLog log old) (mor
       split h xs ys = ap (filter test) (filter_map-append h xs ys) ∙ filter-append test (filter_map h xs) (filter_map h ys)
 
       member : (xs : List LogEntry) (e : LogEntry) → Has (share workers w xs) e → Has xs e
-      member xs e h = (has-filter_back (λ (x : LogEntry). is_shared_by workers w (shard_of_vector x.vector)) xs e h).0
+      member xs e h = (has_filter_back (λ (x : LogEntry). is_shared_by workers w (shard_of_vector x.vector)) xs e h).0
 
       fresh : filter test (filter_map f (share workers w entries)) ≡ []
-      fresh = filter-none test (filter_map f (share workers w entries)) (λ y h. each y (has-filter_map_back f (share workers w entries) y h))
+      fresh = filter_none test (filter_map f (share workers w entries)) (λ y h. each y (has_filter_map_back f (share workers w entries) y h))
         where
           each : (y : Y) → (e : LogEntry) × Has (share workers w entries) e × (f e ≡ Some y) → test y ≡ false
           each y r = none r.0 y (member entries r.0 r.1) r.2
@@ -165,24 +165,24 @@ module _ (log entries : List LogEntry) (old new : ℕ) (is : IsLog log old) (mor
 
     pub touches_stay : (t : ℕ) (a : Place) (e : LogEntry) → Contains log e → ends t e.vector ≡ true → Contains (touched t (log ++ entries)) a → Contains (touched t log) a
     touches_stay t a e w u h =
-        let r = contains-filter_map_back (λ (x : LogEntry). touched_by t x.vector) (log ++ entries) a h in
-        contains-filter_map (λ (x : LogEntry). touched_by t x.vector) log r.0 a (touch_was t a r.0 e r.1 r.2 w u) r.2
+        let r = contains_filter_map_back (λ (x : LogEntry). touched_by t x.vector) (log ++ entries) a h in
+        contains_filter_map (λ (x : LogEntry). touched_by t x.vector) log r.0 a (touch_was t a r.0 e r.1 r.2 w u) r.2
 
     pub begun_stays : (scn t : ℕ) (e : LogEntry) → Contains log e → ends t e.vector ≡ true → begun_above (log ++ entries) scn t ≡ begun_above log scn t
     begun_stays scn t e w u = both_ways (begun_above (log ++ entries) scn t) (begun_above log scn t) back forth
       where
         back : begun_above (log ++ entries) scn t ≡ true → begun_above log scn t ≡ true
         back h =
-            let r = begun-entry (log ++ entries) scn t h in
+            let r = begun_entry (log ++ entries) scn t h in
             let b = facts.begun_to_end t e (stays_within e w) u in
             let one : b.0 ≡ r.0 = facts.begun_once t b.0 r.0 b.1 r.1 b.2 r.2 in
             let same : b.0.scn ≡ r.0.scn = ap (λ (y : LogEntry). y.scn) one in
             let before : b.0.scn ≤ e.scn = b.4 in
             let end : e.scn ≤ old = received log old is e w in
-            entry-begun log scn t r.0 (was_within r.0 r.1 (omega arith)) r.2 r.3
+            entry_begun log scn t r.0 (was_within r.0 r.1 (omega arith)) r.2 r.3
 
         forth : begun_above log scn t ≡ true → begun_above (log ++ entries) scn t ≡ true
-        forth h = let r = begun-entry log scn t h in entry-begun (log ++ entries) scn t r.0 (stays_within r.0 r.1) r.2 r.3
+        forth h = let r = begun_entry log scn t h in entry_begun (log ++ entries) scn t r.0 (stays_within r.0 r.1) r.2 r.3
 
     -- so the nodes of old entries stay
     pub node_stays : (born : ℕ) (e : LogEntry) → Has log e → node_of (begun_above (log ++ entries) born) e ≡ node_of (begun_above log born) e

@@ -10,7 +10,7 @@ use Rattle.core_rules.specs.State.{CoreState, Worker, Shard, Link, ColumnUnit, A
 use Rattle.core_rules.specs.Parts.{ShardsAre, CountsAre, ProgressIs, AppliedAre, AreaIs, PartitionIs, DdlIs, mined_from, ItemsAre, items_of, ClaimsAre, stages_of, AllCollected}
 use Rattle.core_rules.specs.UnitParts.{UnitIs}
 use Rattle.core_rules.specs.Invariant.{Invariant, WorkerIs, FlushIs}
-use Rattle.core_rules.proofs.Lists.{at-set_cases, at-same, at-within}
+use Rattle.core_rules.proofs.Lists.{at_set_cases, at_same, at_within}
 
 -- what the invariant says of a worker, with all that it reads
 pub record WorkerAt (workers limit frontier : ℕ) (log : List LogEntry) (born query : ℕ) (links : List Link) (shards : List Shard) (worker : ℕ) (w : Worker) : Type 0 where
@@ -23,11 +23,11 @@ pub record WorkerAt (workers limit frontier : ℕ) (log : List LogEntry) (born q
 abbrev pub IsIn : CoreState → (workers : ℕ) → List Shard → (worker : ℕ) → Worker → Type 0
 IsIn c workers shards worker w = WorkerAt workers (limit c) c.frontier c.log c.born c.query c.links shards worker w
 
-pub worker-at : (c : CoreState) (worker : ℕ) (w : Worker) → WorkerIs c worker w → IsIn c (length c.workers) c.shards worker w
-worker-at c worker w h = record { counts = h.counts; progress = h.progress; applied = h.applied; area = h.area; partition = h.partition }
+pub worker_at : (c : CoreState) (worker : ℕ) (w : Worker) → WorkerIs c worker w → IsIn c (length c.workers) c.shards worker w
+worker_at c worker w h = record { counts = h.counts; progress = h.progress; applied = h.applied; area = h.area; partition = h.partition }
 
-pub worker-is : (c : CoreState) (workers worker : ℕ) (w : Worker) → length c.workers ≡ workers → IsIn c workers c.shards worker w → WorkerIs c worker w
-worker-is c workers worker w e h =
+pub worker_is : (c : CoreState) (workers worker : ℕ) (w : Worker) → length c.workers ≡ workers → IsIn c workers c.shards worker w → WorkerIs c worker w
+worker_is c workers worker w e h =
     let k : IsIn c (length c.workers) c.shards worker w = subst (λ n. IsIn c n c.shards worker w) (sym e) h in
     record { counts = k.counts; progress = k.progress; applied = k.applied; area = k.area; partition = k.partition }
 
@@ -35,15 +35,15 @@ worker-is c workers worker w e h =
 abbrev pub HoldMore : List Shard → List Shard → Type 0
 HoldMore old new = (n : ℕ) (s : Shard) → At new n s → (was : Shard) × At old n was × (was.applied ≤ s.applied)
 
-pub applied-more : (entries : List LogEntry) (old new : List Shard) → HoldMore old new → AppliedAre entries old → AppliedAre entries new
-applied-more entries old new more h e k n s own at =
+pub applied_more : (entries : List LogEntry) (old new : List Shard) → HoldMore old new → AppliedAre entries old → AppliedAre entries new
+applied_more entries old new more h e k n s own at =
     let r = more n s at in
     let below : e.pos < r.0.applied = h e k n r.0 own r.1 in
     let not_less : r.0.applied ≤ s.applied = r.2 in
     omega arith
 
-pub hold-same : (shards : List Shard) → HoldMore shards shards
-hold-same shards n s at = (s, at, omega arith)
+pub hold_same : (shards : List Shard) → HoldMore shards shards
+hold_same shards n s at = (s, at, omega arith)
 
 -- the state with another worker, other shards and other changes of definitions
 abbrev pub with_crew : CoreState → ℕ → Worker → List Shard → List DdlNode → CoreState
@@ -79,9 +79,9 @@ crew_keeps c worker x shards ddl v s more is d = record {
     same : length (slice_set c.workers worker x) ≡ length c.workers
     same = length-set c.workers worker x
     moved : (n : ℕ) (w : Worker) → WorkerIs c n w → IsIn c (length c.workers) shards n w
-    moved n w h = record { counts = h.counts; progress = h.progress; applied = applied-more (take w.applied (share_of c n)) c.shards shards more h.applied; area = h.area; partition = h.partition }
+    moved n w h = record { counts = h.counts; progress = h.progress; applied = applied_more (take w.applied (share_of c n)) c.shards shards more h.applied; area = h.area; partition = h.partition }
     each_worker : (n : ℕ) (w : Worker) → At (slice_set c.workers worker x) n w → WorkerIs (with_crew c worker x shards ddl) n w
-    each_worker n w h = worker-is (with_crew c worker x shards ddl) (length c.workers) n w same (either (at-set_cases c.workers worker n w x h))
+    each_worker n w h = worker_is (with_crew c worker x shards ddl) (length c.workers) n w same (either (at_set_cases c.workers worker n w x h))
       where
         either : ((n ≡ worker) × (w ≡ x)) ⊎ ((n ≡ worker → ⊥) × At c.workers n w) → IsIn c (length c.workers) shards n w
         either (inl p) = subst (λ m. IsIn c (length c.workers) shards m w) (sym p.0) (subst (λ y. IsIn c (length c.workers) shards worker y) (sym p.1) is)

@@ -14,8 +14,8 @@ use Rattle.core_rules.specs.LogFacts.{LogHasFacts}
 use Rattle.core_rules.specs.Invariant.{Invariant}
 use Rattle.core_rules.specs.Runs.{Takes, Leads}
 use Rattle.core_rules.specs.Laws.{GuardsAreExact, IsOfCoordinator, moving, EndsFlush, FlushEnds}
-use Rattle.core_rules.proofs.Lists.{at-within, at-same, at-set_same, at-set_cases, contains-at, each-at, each-contains, each-from, Has, contains, any-contains, any-none, any-false, is-true}
-use Rattle.core_rules.proofs.Once.{count-cons, count-none, count-some}
+use Rattle.core_rules.proofs.Lists.{at_within, at_same, at_set_same, at_set_cases, contains_at, each_at, each_contains, each_from, Has, contains, any_contains, any_none, any_false, is_true}
+use Rattle.core_rules.proofs.Once.{count_cons, count_none, count_some}
 use Rattle.core_rules.proofs.Keeps.{Keeps}
 
 -- what is proved of the coordinator's events
@@ -62,13 +62,13 @@ count_set (l ∷ ls) zero link stage h =
     let e : Some l ≡ Some link = h in
     let same : l ≡ link = cc in
     let tests : cond {A = ℕ} (is_unclaimed l.stage) 1 0 ≡ cond (is_unclaimed link.stage) 1 0 = ap (λ (x : Link). cond {A = ℕ} (is_unclaimed x.stage) 1 0) same in
-    let old = count-cons (λ (x : Link). is_unclaimed x.stage) l ls in
-    let new = count-cons (λ (x : Link). is_unclaimed x.stage) (record link { stage = stage }) ls in
+    let old = count_cons (λ (x : Link). is_unclaimed x.stage) l ls in
+    let new = count_cons (λ (x : Link). is_unclaimed x.stage) (record link { stage = stage }) ls in
     omega arith
 count_set (l ∷ ls) (suc n) link stage h =
     let ih = count_set ls n link stage h in
-    let old = count-cons (λ (x : Link). is_unclaimed x.stage) l ls in
-    let new = count-cons (λ (x : Link). is_unclaimed x.stage) l (slice_set ls n (record link { stage = stage })) in
+    let old = count_cons (λ (x : Link). is_unclaimed x.stage) l ls in
+    let new = count_cons (λ (x : Link). is_unclaimed x.stage) l (slice_set ls n (record link { stage = stage })) in
     omega arith
 
 -- the coordinator claims the first, goes on, and is done
@@ -77,9 +77,9 @@ claimed_busy : (links : List Link) (left number : ℕ) (link : Link) → AreQuie
 claimed_busy links left number link q found is = record {
   link = record link { stage = Claimed 0 0 [] };
   collected = [];
-  found = at-set_same links number (record link { stage = Claimed 0 0 [] }) (at-within links number link found);
+  found = at_set_same links number (record link { stage = Claimed 0 0 [] }) (at_within links number link found);
   stage = refl;
-  others = λ n l d h. others n l d (at-set_cases links number n l (record link { stage = Claimed 0 0 [] }) h);
+  others = λ n l d h. others n l d (at_set_cases links number n l (record link { stage = Claimed 0 0 [] }) h);
   count =
     let set = count_set links number link (Claimed 0 0 []) found in
     let was : cond (is_unclaimed link.stage) 1 0 ≡ 1 = ap (λ s. cond {A = ℕ} (is_unclaimed s) 1 0) is in
@@ -89,16 +89,16 @@ claimed_busy links left number link q found is = record {
   where
     others : (n : ℕ) (l : Link) → (n ≡ number → ⊥) → ((n ≡ number) × (l ≡ record link { stage = Claimed 0 0 [] })) ⊎ ((n ≡ number → ⊥) × At links n l) → IsFree l
     others n l d (inl p) = absurd (d p.0)
-    others n l d (inr p) = each-at IsFree links n l q.each p.1
+    others n l d (inr p) = each_at IsFree links n l q.each p.1
 
 next_busy : (links : List Link) (left number cursor later : ℕ) (link : Link) (collected more : List Collected) → AreBusy links number cursor left → At links number link
     → link.stage ≡ Claimed 0 cursor collected → AreBusy (slice_set links number (record link { stage = Claimed 0 later more })) number later left
 next_busy links left number cursor later link collected more b found is = record {
   link = record link { stage = Claimed 0 later more };
   collected = more;
-  found = at-set_same links number (record link { stage = Claimed 0 later more }) (at-within links number link found);
+  found = at_set_same links number (record link { stage = Claimed 0 later more }) (at_within links number link found);
   stage = refl;
-  others = λ n l d h. others n l d (at-set_cases links number n l (record link { stage = Claimed 0 later more }) h);
+  others = λ n l d h. others n l d (at_set_cases links number n l (record link { stage = Claimed 0 later more }) h);
   count =
     let set = count_set links number link (Claimed 0 later more) found in
     let was : cond (is_unclaimed link.stage) 1 0 ≡ 0 = ap (λ s. cond {A = ℕ} (is_unclaimed s) 1 0) is in
@@ -113,7 +113,7 @@ next_busy links left number cursor later link collected more b found is = record
 done_quiet : (links : List Link) (left number cursor : ℕ) (link : Link) (collected : List Collected) → AreBusy links number cursor left → At links number link
     → link.stage ≡ Claimed 0 cursor collected → AreQuiet (slice_set links number (record link { stage = Finished })) left
 done_quiet links left number cursor link collected b found is = record {
-  each = each-from IsFree (slice_set links number done) (λ l h. free l (contains-at (slice_set links number done) l h));
+  each = each_from IsFree (slice_set links number done) (λ l h. free l (contains_at (slice_set links number done) l h));
   count =
     let set = count_set links number link Finished found in
     let was : cond (is_unclaimed link.stage) 1 0 ≡ 0 = ap (λ s. cond {A = ℕ} (is_unclaimed s) 1 0) is in
@@ -124,7 +124,7 @@ done_quiet links left number cursor link collected b found is = record {
     done : Link
     done = record link { stage = Finished }
     free : (l : Link) → (n : ℕ) × At (slice_set links number done) n l → IsFree l
-    free l at = by_case (at-set_cases links number at.0 l done at.1)
+    free l at = by_case (at_set_cases links number at.0 l done at.1)
       where
         by_case : ((at.0 ≡ number) × (l ≡ done)) ⊎ ((at.0 ≡ number → ⊥) × At links at.0 l) → IsFree l
         by_case (inl p) = inr (ap (λ (x : Link). is_finished x.stage) p.1)
@@ -143,7 +143,7 @@ the_link c number cursor left n l k xs b h = by_number (cases_eq n number)
     by_number : (n ≡ number) ⊎ (n ≡ number → ⊥) → IsTheLink c.links number cursor n l k
     by_number (inr d) = absurd (free_not_held l 0 (b.others n l d h.found) held)
     by_number (inl e) =
-        let one : l ≡ b.link = at-same c.links number l b.link (subst (λ m. At c.links m l) e h.found) b.found in
+        let one : l ≡ b.link = at_same c.links number l b.link (subst (λ m. At c.links m l) e h.found) b.found in
         let stages : Claimed 0 k xs ≡ Claimed 0 cursor b.collected = sym h.stage ∙ ap (λ (x : Link). x.stage) one ∙ b.stage in
         let cursors : k ≡ cursor = cc in
         record { number_is = e; cursor_is = cursors }
@@ -183,11 +183,11 @@ publish_one workers through c v flushing many q = record {
     finished : (l : Link) → Contains c.links l → IsFree l → is_finished l.stage ≡ true
     finished l h (inr k) = k
     finished l h (inl k) =
-        let some : 1 ≤ unclaimed_links c.links = count-some (λ (x : Link). is_unclaimed x.stage) c.links (any-contains (λ (x : Link). is_unclaimed x.stage) c.links l h k) in
+        let some : 1 ≤ unclaimed_links c.links = count_some (λ (x : Link). is_unclaimed x.stage) c.links (any_contains (λ (x : Link). is_unclaimed x.stage) c.links l h k) in
         let none : unclaimed_links c.links ≡ 0 = q.count in
         absurd (omega arith)
     done : AllByRecursion (λ (l : Link). is_finished l.stage ≡ true) c.links
-    done = each-from (λ (l : Link). is_finished l.stage ≡ true) c.links (λ l h. finished l h (each-contains IsFree c.links l q.each h))
+    done = each_from (λ (l : Link). is_finished l.stage ≡ true) c.links (λ l h. finished l h (each_contains IsFree c.links l q.each h))
 
 claim_one : LogHasFacts → CoordinatorKeeps → GuardsAreExact → (workers through left count : ℕ) → ((number : ℕ) → FromBusy workers through number 0 left count)
     → FromQuiet workers through (suc left) (count + 1)
@@ -197,18 +197,18 @@ claim_one facts keep exact workers through left count later c v flushing many q 
     can = record {
       known = omega arith;
       flushing = ap is_flushing flushing;
-      free = any-none (λ (l : Link). is_held_by 0 l.stage) c.links (λ l h k. free_not_held l 0 (each-contains IsFree c.links l q.each h) k);
+      free = any_none (λ (l : Link). is_held_by 0 l.stage) c.links (λ l h k. free_not_held l 0 (each_contains IsFree c.links l q.each h) k);
       some = some (list_any (λ (l : Link). is_unclaimed l.stage) c.links) refl;
     }
       where
         not_here : list_any (λ (l : Link). is_unclaimed l.stage) c.links ≡ false → (l : Link) → Has c.links l → (is_unclaimed l.stage ≡ true) ⊎ (is_unclaimed l.stage ≡ false) → is_unclaimed l.stage ≡ false
         not_here e l h (inr k) = k
-        not_here e l h (inl k) = absurd (any-false (λ (x : Link). is_unclaimed x.stage) c.links l e (contains c.links l h) k)
+        not_here e l h (inl k) = absurd (any_false (λ (x : Link). is_unclaimed x.stage) c.links l e (contains c.links l h) k)
         some : (b : Bool) → list_any (λ (l : Link). is_unclaimed l.stage) c.links ≡ b → b ≡ true
         some true e = refl
         some false e =
             let by_false = λ (l : Link) (h : Has c.links l) (d : (is_unclaimed l.stage ≡ true) ⊎ (is_unclaimed l.stage ≡ false)). not_here e l h d in
-            let none : unclaimed_links c.links ≡ 0 = count-none (λ (l : Link). is_unclaimed l.stage) c.links (λ l h. by_false l h (is-true (is_unclaimed l.stage))) in
+            let none : unclaimed_links c.links ≡ 0 = count_none (λ (l : Link). is_unclaimed l.stage) c.links (λ l h. by_false l h (is_true (is_unclaimed l.stage))) in
             let all : unclaimed_links c.links ≡ suc left = q.count in
             absurd (omega arith)
     by_outcome : (answer : CoreAnswer) × (new : CoreState) × Happens c (event.Claim 0) answer new → EndsFlush c through (count + 1)

@@ -8,7 +8,7 @@ use Rattle.core_rules.specs.Applying.{CanApply, CanMine, CanRaise}
 use Rattle.core_rules.specs.Flush.{CanCollect, CanTouch, CanFinish, CanPublish}
 use Rattle.core_rules.specs.Invariant.{Invariant}
 use Rattle.core_rules.specs.Laws.{IsExact}
-use Rattle.core_rules.proofs.Lists.{at-within}
+use Rattle.core_rules.proofs.Lists.{at_within}
 use Rattle.core_rules.proofs.ExactWorkers.{possible_apply, possible_mine, possible_raise}
 use Rattle.core_rules.proofs.ExactFlush.{possible_begin_flush, possible_claim, possible_collect}
 use Rattle.core_rules.proofs.ExactTouch.{possible_touch, possible_finish, possible_publish}
@@ -19,7 +19,7 @@ moved e = cc
 pub apply_exact : (c : CoreState) (worker : ℕ) → Invariant c → IsExact c (event.Apply worker)
 apply_exact c worker v = record {
   possible = λ can. let r = possible_apply c worker v can in (Moved, r.0, (refl, r.1));
-  guarded = λ answer new h. record { was = h.1.was; found = h.1.found; left = at-within (share_of c worker) h.1.was.applied h.1.entry h.1.next };
+  guarded = λ answer new h. record { was = h.1.was; found = h.1.found; left = at_within (share_of c worker) h.1.was.applied h.1.entry h.1.next };
   ready = λ new h. moved h.0;
 }
 
@@ -54,7 +54,7 @@ claim_exact c actor = record {
 pub collect_exact : (c : CoreState) (actor : ℕ) → IsExact c (event.Collect actor)
 collect_exact c actor = record {
   possible = λ can. let r = possible_collect c actor can in (Moved, r.0, (refl, r.1));
-  guarded = λ answer new h. record { number = h.1.number; link = h.1.link; cursor = h.1.cursor; collected = h.1.collected; has = h.1.has; area = at-within c.workers h.1.cursor h.1.was h.1.at };
+  guarded = λ answer new h. record { number = h.1.number; link = h.1.link; cursor = h.1.cursor; collected = h.1.collected; has = h.1.has; area = at_within c.workers h.1.cursor h.1.was h.1.at };
   ready = λ new h. moved h.0;
 }
 

@@ -17,7 +17,7 @@ use Rattle.core_rules.specs.Extents.{IsInExtent}
 use Rattle.core_rules.specs.State.{CoreState, Worker, Idle, Collected, Stage, Unclaimed, Claimed, Finished, Link, ColumnUnit, Units, At, is_unclaimed, has_txn, has_change, has_coarse, has_drop, HasCollected}
 use Rattle.core_rules.specs.Flush.{CanBeginFlush, BeginsFlush, nodes_upto, AreFull, AreChopped, CanClaim, Claims, IsFirstUnclaimed, CanCollect, Collects, AreaGives, Gains, CanTouch, Touches, Marks, IsMarked, IsTouched, CanFinish, Finishes, CanPublish, Publishes}
 use Rattle.core_rules.specs.Invariant.{Invariant}
-use Rattle.core_rules.proofs.Lists.{Has, has, contains, at-exists, has-filter, has-filter_back, has-map, has-map_back, has-append_left, has-append_right, has-append_cases, any-has, any-has_back, is-true, not-both}
+use Rattle.core_rules.proofs.Lists.{Has, has, contains, at_exists, has_filter, has_filter_back, has_map, has_map_back, has_append_left, has_append_right, has_append_cases, any_has, any_has_back, is_true, not_both}
 
 -- nodes put in the order of their positions
 abbrev pub placed : Node → List Node → List Node
@@ -188,17 +188,17 @@ area_gives items area = record {
   where
     kept : (t : ℕ) (h : Held) → Contains area h → h.txn ≡ t → has_txn t items ≡ false → Contains (filter (λ (x : Held). not (has_txn x.txn items)) area) h
     kept t h w e k = contains (filter (λ (x : Held). not (has_txn x.txn items)) area) h
-      (has-filter (λ (x : Held). not (has_txn x.txn items)) area h (has area h w) (ap not (ap (λ n. has_txn n items) e ∙ k)))
+      (has_filter (λ (x : Held). not (has_txn x.txn items)) area h (has area h w) (ap not (ap (λ n. has_txn n items) e ∙ k)))
     only : (t : ℕ) (h : Held) → Contains (filter (λ (x : Held). not (has_txn x.txn items)) area) h → h.txn ≡ t → Contains area h × (has_txn t items ≡ false)
     only t h w e =
-        let r = has-filter_back (λ (x : Held). not (has_txn x.txn items)) area h (has (filter (λ (x : Held). not (has_txn x.txn items)) area) h w) in
+        let r = has_filter_back (λ (x : Held). not (has_txn x.txn items)) area h (has (filter (λ (x : Held). not (has_txn x.txn items)) area) h w) in
         (contains area h r.0, ap (λ n. has_txn n items) (sym e) ∙ not_true (has_txn h.txn items) r.1)
 
 gains : (items : List Item) (area : List Held) (old : List Collected) → Gains items area old (old ++ given items area)
 gains items area old = record {
-  kept = λ t a h. record { entry = h.entry; within = contains (old ++ given items area) h.entry (has-append_left old (given items area) h.entry (has old h.entry h.within)); of = h.of; noted = h.noted };
+  kept = λ t a h. record { entry = h.entry; within = contains (old ++ given items area) h.entry (has_append_left old (given items area) h.entry (has old h.entry h.within)); of = h.of; noted = h.noted };
   gained = gained;
-  only = λ t a h. only t a h (has-append_cases old (given items area) h.entry (has (old ++ given items area) h.entry h.within));
+  only = λ t a h. only t a h (has_append_cases old (given items area) h.entry (has (old ++ given items area) h.entry h.within));
 }
   where
     as_collected : Held → Collected
@@ -207,17 +207,17 @@ gains items area old = record {
     gained t a h k = record {
       entry = record { txn = h.held.txn; places = h.held.places };
       within = contains (old ++ given items area) (record { txn = h.held.txn; places = h.held.places })
-        (has-append_right old (given items area) (record { txn = h.held.txn; places = h.held.places })
-          (has-map (λ (x : Held). record { txn = x.txn; places = x.places }) (filter (λ (x : Held). has_txn x.txn items) area) h.held
-            (has-filter (λ (x : Held). has_txn x.txn items) area h.held (has area h.held h.within) (ap (λ n. has_txn n items) h.of ∙ k))));
+        (has_append_right old (given items area) (record { txn = h.held.txn; places = h.held.places })
+          (has_map (λ (x : Held). record { txn = x.txn; places = x.places }) (filter (λ (x : Held). has_txn x.txn items) area) h.held
+            (has_filter (λ (x : Held). has_txn x.txn items) area h.held (has area h.held h.within) (ap (λ n. has_txn n items) h.of ∙ k))));
       of = h.of;
       noted = h.noted;
     }
     only : (t : ℕ) (a : Place) → (h : HasCollected (old ++ given items area) t a) → Has old h.entry ⊎ Has (given items area) h.entry → HasCollected old t a ⊎ (HoldsPlace area t a × (has_txn t items ≡ true))
     only t a h (inl k) = inl (record { entry = h.entry; within = contains old h.entry k; of = h.of; noted = h.noted })
     only t a h (inr k) =
-        let m = has-map_back (λ (x : Held). record { txn = x.txn; places = x.places }) (filter (λ (x : Held). has_txn x.txn items) area) h.entry k in
-        let f = has-filter_back (λ (x : Held). has_txn x.txn items) area m.0 m.1 in
+        let m = has_map_back (λ (x : Held). record { txn = x.txn; places = x.places }) (filter (λ (x : Held). has_txn x.txn items) area) h.entry k in
+        let f = has_filter_back (λ (x : Held). has_txn x.txn items) area m.0 m.1 in
         let of : m.0.txn ≡ t = ap (λ (x : Collected). x.txn) m.2 ∙ h.of in
         inr (record { held = m.0; within = contains area m.0 f.0; of = of; noted = subst (λ (x : Collected). Contains x.places a) (sym m.2) h.noted }, ap (λ n. has_txn n items) (sym of) ∙ f.1)
 
@@ -238,4 +238,4 @@ possible_collect c actor can = (_, record {
 })
   where
     was : (w : Worker) × At c.workers can.cursor w
-    was = at-exists c.workers can.cursor can.area
+    was = at_exists c.workers can.cursor can.area

@@ -9,7 +9,7 @@ use Rattle.adg_base.specs.declared.node.Item.{Item}
 use Rattle.core_rules.specs.Extents.{IsInExtent}
 use Rattle.core_rules.specs.State.{CoreState, Collected, Link, ColumnUnit, Units, At, has_change, has_coarse, has_drop, HasCollected}
 use Rattle.core_rules.specs.Flush.{CanTouch, Touches, Marks, IsMarked, IsTouched, CanFinish, Finishes, CanPublish, Publishes}
-use Rattle.core_rules.proofs.Lists.{has, contains, any-contains, any-contains_back, is-true}
+use Rattle.core_rules.proofs.Lists.{has, contains, any_contains, any_contains_back, is_true}
 
 same_places : (a b : Place) → same_place a b ≡ true → a ≡ b
 same_places a b h =
@@ -41,9 +41,9 @@ hit_marks items collected obj extent a h =
     let p = and_parts (in_extent obj extent a) (list_any (collects items a) collected) h in
     let q = and_parts (a.obj == obj) (nat_le (16 * extent) a.block && nat_lt a.block (16 * extent + 16)) p.0 in
     let r = and_parts (nat_le (16 * extent) a.block) (nat_lt a.block (16 * extent + 16)) q.1 in
-    let x = any-contains_back (collects items a) collected p.1 in
+    let x = any_contains_back (collects items a) collected p.1 in
     let y = and_parts (has_change x.0.txn items) (list_any (same_place a) x.0.places) x.2 in
-    let z = any-contains_back (same_place a) x.0.places y.1 in
+    let z = any_contains_back (same_place a) x.0.places y.1 in
     let one : a ≡ z.0 = same_places a z.0 z.2 in
     record {
       txn = x.0.txn;
@@ -57,10 +57,10 @@ marks_hit items collected obj extent a m =
     and_from (in_extent obj extent a) (list_any (collects items a) collected)
       (and_from (a.obj == obj) (nat_le (16 * extent) a.block && nat_lt a.block (16 * extent + 16)) (eq-eqb a.obj obj m.within.object)
         (and_from (nat_le (16 * extent) a.block) (nat_lt a.block (16 * extent + 16)) (le-leb (16 * extent) a.block m.within.from) (lt-ltb a.block (16 * extent + 16) m.within.below)))
-      (any-contains (collects items a) collected m.noted.entry m.noted.within
+      (any_contains (collects items a) collected m.noted.entry m.noted.within
         (and_from (has_change m.noted.entry.txn items) (list_any (same_place a) m.noted.entry.places)
           (ap (λ n. has_change n items) m.noted.of ∙ m.change)
-          (any-contains (same_place a) m.noted.entry.places a m.noted.noted (place_itself a))))
+          (any_contains (same_place a) m.noted.entry.places a m.noted.noted (place_itself a))))
 
 -- a unit with the marks of a worklink
 abbrev pub touched_unit : List Item → List Collected → (obj extent : ℕ) → ColumnUnit → ColumnUnit
@@ -76,7 +76,7 @@ unit_marked items collected obj extent u = record {
   all = refl;
   kept = λ a h. ap (λ b. b || is_hit items collected obj extent a) h;
   gained = λ a m. either_true (u.marked a) (is_hit items collected obj extent a) (marks_hit items collected obj extent a m);
-  only = λ a h. by_test a (is-true (u.marked a)) h;
+  only = λ a h. by_test a (is_true (u.marked a)) h;
 }
   where
     either_true : (b d : Bool) → d ≡ true → (b || d) ≡ true

@@ -15,8 +15,8 @@ use Rattle.core_rules.specs.Share.{is_shared_by}
 use Rattle.core_rules.specs.State.{CoreState, Worker, Shard, At, share_of}
 use Rattle.core_rules.specs.Applying.{CanApply, Applies, CanMine, Mines, AreaTakes, CanRaise, Raises}
 use Rattle.core_rules.specs.Invariant.{Invariant}
-use Rattle.core_rules.proofs.Lists.{Has, has, contains, at-exists, at-contains}
-use Rattle.core_rules.proofs.Shares.{share-own}
+use Rattle.core_rules.proofs.Lists.{Has, has, contains, at_exists, at_contains}
+use Rattle.core_rules.proofs.Shares.{share_own}
 
 -- the shard of an entry is one of 64
 shard_within : (v : Vector) (n : ℕ) → shard_of_vector v ≡ Some n → n < 64
@@ -44,12 +44,12 @@ possible_apply c worker v can = (record c {
 }, record { was = can.was; found = can.found; entry = entry.0; next = entry.1; place = shard.0; own = shard.1; shard = at.0; at = at.1; effect = refl })
   where
     entry : (e : LogEntry) × At (share_of c worker) can.was.applied e
-    entry = at-exists (share_of c worker) can.was.applied can.left
+    entry = at_exists (share_of c worker) can.was.applied can.left
     shard : (n : ℕ) × (shard_of_vector entry.0.vector ≡ Some n)
     shard = has_shard (length c.workers) worker (shard_of_vector entry.0.vector)
-      (share-own (length c.workers) worker c.log entry.0 (at-contains (share_of c worker) can.was.applied entry.0 entry.1))
+      (share_own (length c.workers) worker c.log entry.0 (at_contains (share_of c worker) can.was.applied entry.0 entry.1))
     at : (s : Shard) × At c.shards shard.0 s
-    at = at-exists c.shards shard.0 (let l : shard.0 < 64 = shard_within entry.0.vector shard.0 shard.1 in let n : length c.shards ≡ 64 = v.shards.count in omega arith)
+    at = at_exists c.shards shard.0 (let l : shard.0 < 64 = shard_within entry.0.vector shard.0 shard.1 in let n : length c.shards ≡ 64 = v.shards.count in omega arith)
 
 -- an area with one more beginning or address
 abbrev pub with_begin : ℕ → List Held → List Held
@@ -153,7 +153,7 @@ possible_mine c worker v can = (_, record {
         let behind : can.was.mined < can.was.applied = can.behind in
         omega arith
     entry : (e : LogEntry) × At (share_of c worker) can.was.mined e
-    entry = at-exists (share_of c worker) can.was.mined within
+    entry = at_exists (share_of c worker) can.was.mined within
 
 pub possible_raise : (c : CoreState) (worker through : ℕ) → CanRaise c worker through → (new : CoreState) × Raises c worker through new
 possible_raise c worker through can = (_, record { was = can.was; found = can.found; above = can.above; received = can.received; mined = can.mined; effect = refl })

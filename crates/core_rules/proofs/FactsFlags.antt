@@ -20,7 +20,7 @@ use Rattle.adg_model.proofs.LogLaws.{ScnsRise, upto_all, upto_none, upto_append}
 use Rattle.adg_model.proofs.RowLaws.{walked_append}
 use Rattle.core_rules.specs.Share.{NotRedefined}
 use Rattle.core_rules.specs.LogFacts.{IsLog, IsInMemory}
-use Rattle.core_rules.proofs.Lists.{Has, has, contains, each-has, each-from_has, has-filter, has-append_left, has-append_right, has-append_cases}
+use Rattle.core_rules.proofs.Lists.{Has, has, contains, each_has, each_from_has, has_filter, has_append_left, has_append_right, has_append_cases}
 use Rattle.core_rules.proofs.FactsTables.{sound_split, walked_created, tied, walked_stays, walked_back, scns_rise, begun_by, rises_first, between, same_table, created_after}
 
 -- a list split at one of its elements
@@ -38,12 +38,12 @@ split_at (y ∷ ys) x (inr h) = let r = split_at ys x h in record { before = y �
 rises_across : (xs : List LogEntry) (e : LogEntry) (ys : List LogEntry) (x : LogEntry) → ScnsRise (xs ++ e ∷ ys) → Has xs x → x.scn ≤ e.scn
 rises_across [] e ys x h k = absurd k
 rises_across (z ∷ xs) e ys x h (inl same) =
-    let le : z.scn ≤ e.scn = each-has (λ (w : LogEntry). z.scn ≤ w.scn) (xs ++ e ∷ ys) e h.0 (has-append_right xs (e ∷ ys) e (inl refl)) in
+    let le : z.scn ≤ e.scn = each_has (λ (w : LogEntry). z.scn ≤ w.scn) (xs ++ e ∷ ys) e h.0 (has_append_right xs (e ∷ ys) e (inl refl)) in
     subst (λ (w : LogEntry). w.scn ≤ e.scn) same le
 rises_across (z ∷ xs) e ys x h (inr k) = rises_across xs e ys x h.1 k
 
 rises_behind : (xs : List LogEntry) (e : LogEntry) (ys : List LogEntry) (y : LogEntry) → ScnsRise (xs ++ e ∷ ys) → Has ys y → e.scn ≤ y.scn
-rises_behind [] e ys y h k = each-has (λ (w : LogEntry). e.scn ≤ w.scn) ys y h.0 k
+rises_behind [] e ys y h k = each_has (λ (w : LogEntry). e.scn ≤ w.scn) ys y h.0 k
 rises_behind (z ∷ xs) e ys y h k = rises_behind xs e ys y h.1 k
 
 -- what a check that holds says
@@ -144,7 +144,7 @@ noted log frontier l t a e low high m touch le mem k = notes_touched log e t a t
     by_test false u =
         let above : e.scn < low = leb-false low e.scn u in
         let b = between log frontier e.scn low l (omega arith) in
-        let upto_self : Has (upto e.scn log) e = has-filter (λ (x : LogEntry). nat_le x.scn e.scn) log e (has log e m) (le-leb e.scn e.scn (omega arith)) in
+        let upto_self : Has (upto e.scn log) e = has_filter (λ (x : LogEntry). nat_le x.scn e.scn) log e (has log e m) (le-leb e.scn e.scn (omega arith)) in
         let end : is_in_memory ((walked (walked no_database (upto e.scn log)) b.middle).tables a.obj) ≡ true =
         ap (λ (db : Database). is_in_memory (db.tables a.obj)) (sym (walked_append no_database (upto e.scn log) b.middle))
             ∙ ap (λ es. is_in_memory ((walked no_database es).tables a.obj)) (sym b.whole) ∙ in_memory log a.obj low mem in
@@ -172,7 +172,7 @@ memory_found log frontier l t a before e later low whole touch mem k = by_test (
     by_test : (b : Bool) → nat_le e.scn low ≡ b → is_in_memory ((walked no_database before).tables a.obj) ≡ true
     by_test true u =
         let le : e.scn ≤ low = leb-true e.scn low u in
-        let all : upto low before ≡ before = upto_all low before (each-from_has (λ (x : LogEntry). x.scn ≤ low) before (λ x m. let r = rises_across before e later x rises m in omega (arith, r, le))) in
+        let all : upto low before ≡ before = upto_all low before (each_from_has (λ (x : LogEntry). x.scn ≤ low) before (λ x m. let r = rises_across before e later x rises m in omega (arith, r, le))) in
         let is : upto low log ≡ before ++ e ∷ upto low later = split ∙ ap (λ es. es ++ upto low (e ∷ later)) all ∙ ap (λ es. before ++ es) (first (nat_le e.scn low) u) in
         let b = between log frontier low low l (omega arith) in
         let r = sound_split no_database before (e ∷ upto low later) (subst (λ es. SoundFrom no_database es) is b.first) in
@@ -183,14 +183,14 @@ memory_found log frontier l t a before e later low whole touch mem k = by_test (
     by_test false u =
         let above : low < e.scn = leb-false e.scn low u in
         let behind : AllByRecursion (λ (x : LogEntry). low < x.scn) (e ∷ later) =
-        (above, each-from_has (λ (x : LogEntry). low < x.scn) later (λ x m. let r = rises_behind before e later x rises m in omega (arith, r, above))) in
+        (above, each_from_has (λ (x : LogEntry). low < x.scn) later (λ x m. let r = rises_behind before e later x rises m in omega (arith, r, above))) in
         let is : upto low log ≡ upto low before = split ∙ ap (λ es. upto low before ++ es) (upto_none low (e ∷ later) behind) ∙ append-nil (upto low before) in
         let b = begun_by before low (rises_first before (e ∷ later) rises) in
         let r = sound_split no_database (upto low before) b.rest (subst (λ es. SoundFrom no_database es) b.whole sound.0) in
         let defined : (walked no_database (upto low before)).tables a.obj ≡ Some mem.table = ap (λ es. (walked no_database es).tables a.obj) (sym is) ∙ mem.defined in
-        let member : (x : LogEntry) → Has b.rest x → Has before x = λ x m. subst (λ es. Has es x) (sym b.whole) (has-append_right (upto low before) b.rest x m) in
+        let member : (x : LogEntry) → Has b.rest x → Has before x = λ x m. subst (λ es. Has es x) (sym b.whole) (has_append_right (upto low before) b.rest x m) in
         let stays = walked_stays (walked no_database (upto low before)) b.rest a.obj mem.table r.1 (tied (upto low before) a.obj mem.table defined) defined
-            (λ x m d. k x (contains log x (subst (λ es. Has es x) (sym whole) (has-append_left before (e ∷ later) x (member x m)))) d (b.above x m) (rises_across before e later x rises (member x m))) in
+            (λ x m d. k x (contains log x (subst (λ es. Has es x) (sym whole) (has_append_left before (e ∷ later) x (member x m)))) d (b.above x m) (rises_across before e later x rises (member x m))) in
         ap (λ es. is_in_memory ((walked no_database es).tables a.obj)) b.whole
             ∙ ap (λ (db : Database). is_in_memory (db.tables a.obj)) (walked_append no_database (upto low before) b.rest)
             ∙ ap is_in_memory stays ∙ mem.flag
@@ -343,9 +343,9 @@ put_first : (before : List LogEntry) (e : LogEntry) (later : List LogEntry) (t :
 put_first before e later t a r touch = by_vector e.vector refl r touch
   where
     here : (v : Vector) → e.vector ≡ v → puts_by t v ≡ Some a → HasPut (before ++ e ∷ later) t a
-    here v same h = (e, has-append_right before (e ∷ later) e (inl refl), ap (puts_by t) same ∙ h)
+    here v same h = (e, has_append_right before (e ∷ later) e (inl refl), ap (puts_by t) same ∙ h)
     earlier : HasPut before t a → HasPut (before ++ e ∷ later) t a
-    earlier p = (p.0, has-append_left before (e ∷ later) p.0 p.1, p.2)
+    earlier p = (p.0, has_append_left before (e ∷ later) p.0 p.1, p.2)
     either : (has_change a [] ≡ true) ⊎ HasPut before t a → HasPut (before ++ e ∷ later) t a
     either (inl k) = absurd (true≢false (sym k))
     either (inr p) = earlier p
@@ -428,7 +428,7 @@ flag_true false false h k = absurd (true≢false (sym k))
 pub flagged : (log : List LogEntry) (frontier : ℕ) → IsLog log frontier
     → (t : ℕ) (a : Place) (e f : LogEntry) (flag : Bool) (low : ℕ) → Contains log e → Contains log f → touched_by t e.vector ≡ Some a
     → f.vector ≡ Commit t flag → IsInMemory log a.obj low → NotRedefined log a.obj low f.scn → flag ≡ true
-flagged log frontier l t a e f flag low me mf touch commit mem k = either (has-append_cases p.before (f ∷ p.later) e (subst (λ es. Has es e) p.whole (has log e me)))
+flagged log frontier l t a e f flag low me mf touch commit mem k = either (has_append_cases p.before (f ∷ p.later) e (subst (λ es. Has es e) p.whole (has log e me)))
   where
     p : SplitAt log f
     p = split_at log f (has log f mf)

@@ -7,7 +7,7 @@ use Rattle.adg_model.specs.Sound.{ScnsWithin}
 use Rattle.adg_model.proofs.LogLaws.{ScnsRise}
 use Rattle.core_rules.specs.State.{At}
 use Rattle.core_rules.specs.LogFacts.{IsLog}
-use Rattle.core_rules.proofs.Lists.{each-at, each-contains}
+use Rattle.core_rules.proofs.Lists.{each_at, each_contains}
 
 -- a position is the first one and the number of entries before it
 position_from : (pos : ℕ) (es : List LogEntry) (n : ℕ) (e : LogEntry) → numbered pos es ≡ es → At es n e → e.pos ≡ pos + n
@@ -67,7 +67,7 @@ rises_in (x ∷ xs) zero zero e f h l a b =
 rises_in (x ∷ xs) zero (suc j) e f h l a b =
     let first : Some x ≡ Some e = a in
     let is : x ≡ e = cc in
-    let r : x.scn ≤ f.scn = each-at (λ (y : LogEntry). x.scn ≤ y.scn) xs j f h.0 b in
+    let r : x.scn ≤ f.scn = each_at (λ (y : LogEntry). x.scn ≤ y.scn) xs j f h.0 b in
     subst (λ (y : LogEntry). y.scn ≤ f.scn) is r
 rises_in (x ∷ xs) (suc i) zero e f h l a b = absurd (omega arith)
 rises_in (x ∷ xs) (suc i) (suc j) e f h l a b = rises_in xs i j e f h.1 (omega arith) a b
@@ -76,4 +76,4 @@ pub rises : (log : List LogEntry) (frontier : ℕ) → IsLog log frontier → (i
 rises log frontier h i j e f l a b = rises_in log i j e f (scns_rise 1 frontier log h.scns) l a b
 
 pub received : (log : List LogEntry) (frontier : ℕ) → IsLog log frontier → (e : LogEntry) → Contains log e → e.scn ≤ frontier
-received log frontier h e k = each-contains (λ (y : LogEntry). y.scn ≤ frontier) log e (scns_below 1 frontier log h.scns) k
+received log frontier h e k = each_contains (λ (y : LogEntry). y.scn ≤ frontier) log e (scns_below 1 frontier log h.scns) k

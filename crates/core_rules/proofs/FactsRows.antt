@@ -14,7 +14,7 @@ use Rattle.adg_model.proofs.RowLaws.{walked_append}
 use Rattle.core_rules.specs.Share.{CommitsAt}
 use Rattle.core_rules.specs.State.{At}
 use Rattle.core_rules.specs.LogFacts.{IsLog, NotTouched}
-use Rattle.core_rules.proofs.Lists.{Has, has-at, has-take, has-filter_back, has-filter_map, has-append_right, contains, each-has}
+use Rattle.core_rules.proofs.Lists.{Has, has_at, has_take, has_filter_back, has_filter_map, has_append_right, contains, each_has}
 use Rattle.core_rules.proofs.FactsOrder.{scns_rise}
 
 place_same : (a b : Place) → same_place a b ≡ true → b ≡ a
@@ -151,18 +151,18 @@ module _ (log : List LogEntry) (a : Place) (low high : ℕ) (none : NotTouched l
     where
       never : (x : LogEntry) → Has log x → touched_by t x.vector ≡ Some a → ⊥
       never x h k =
-          let w = within e (has-at rest n e at) in
+          let w = within e (has_at rest n e at) in
           let v = commit_vector t e.vector c in
           let here : CommitsAt log t e.scn = record { entry = e; flag = v.0; within = contains log e w.0; commits = v.1; at = refl } in
-          none t e.scn here w.1 w.2 (contains (touched t log) a (has-filter_map (λ (y : LogEntry). touched_by t y.vector) log x a h k))
+          none t e.scn here w.1 w.2 (contains (touched t log) a (has_filter_map (λ (y : LogEntry). touched_by t y.vector) log x a h k))
 
       earlier : (has_change a ((no_database).pending t) ≡ true) ⊎ ((x : LogEntry) × Has (upto low log) x × (touched_by t x.vector ≡ Some a)) → ⊥
       earlier (inl k) = true≢false (sym k)
-      earlier (inr r) = never r.0 (has-filter_back (λ (y : LogEntry). nat_le y.scn low) log r.0 r.1).0 r.2
+      earlier (inr r) = never r.0 (has_filter_back (λ (y : LogEntry). nat_le y.scn low) log r.0 r.1).0 r.2
 
       either : (has_change a ((walked no_database (upto low log)).pending t) ≡ true) ⊎ ((x : LogEntry) × Has (take n rest) x × (touched_by t x.vector ≡ Some a)) → ⊥
       either (inl k) = earlier (pending_walked no_database (upto low log) t a k)
-      either (inr r) = never r.0 (within r.0 (has-take n rest r.0 r.1)).0 r.2
+      either (inr r) = never r.0 (within r.0 (has_take n rest r.0 r.1)).0 r.2
 
       by_test : (x : Bool) → has_change a ((walked (walked no_database (upto low log)) (take n rest)).pending t) ≡ x → x ≡ false
       by_test true e = absurd (either (pending_walked (walked no_database (upto low log)) (take n rest) t a e))
@@ -191,5 +191,5 @@ same_row log frontier is a low high l none =
 
     within : (more : List LogEntry) → log ≡ upto low log ++ more → AllByRecursion (λ (x : LogEntry). low < x.scn) more → (x : LogEntry) → Has (upto high more) x → Has log x × (low < x.scn) × (x.scn ≤ high)
     within more e above x h =
-        let f = has-filter_back (λ (y : LogEntry). nat_le y.scn high) more x h in
-        (subst (λ (ys : List LogEntry). Has ys x) (sym e) (has-append_right (upto low log) more x f.0), each-has (λ (y : LogEntry). low < y.scn) more x above f.0, leb-true x.scn high f.1)
+        let f = has_filter_back (λ (y : LogEntry). nat_le y.scn high) more x h in
+        (subst (λ (ys : List LogEntry). Has ys x) (sym e) (has_append_right (upto low log) more x f.0), each_has (λ (y : LogEntry). low < y.scn) more x above f.0, leb-true x.scn high f.1)

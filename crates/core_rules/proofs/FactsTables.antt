@@ -18,7 +18,7 @@ use Rattle.adg_model.proofs.LogLaws.{ScnsRise, scns_split, upto_upto}
 use Rattle.adg_model.proofs.RowLaws.{walked_append}
 use Rattle.core_rules.specs.Share.{redefines, NotRedefined}
 use Rattle.core_rules.specs.LogFacts.{IsLog}
-use Rattle.core_rules.proofs.Lists.{Has, has, contains, each-has, each-weaker, has-filter_back, has-append_left, has-append_right}
+use Rattle.core_rules.proofs.Lists.{Has, has, contains, each_has, each_weaker, has_filter_back, has_append_left, has_append_right}
 
 -- what a vector makes of the definition of an object
 abbrev pub table_after : ℕ → Option Table → Vector → Option Table
@@ -250,7 +250,7 @@ above_first : (k f : ℕ) (es : List LogEntry) → ScnsWithin k f es → AllByRe
 above_first k f [] h = tt
 above_first k f (e ∷ es) h =
     let low : k ≤ e.scn = h.0 in
-    (h.0, each-weaker (λ (x : LogEntry). e.scn ≤ x.scn) (λ (x : LogEntry). k ≤ x.scn) es (λ x j. omega (arith, j, low)) (above_first e.scn f es h.2))
+    (h.0, each_weaker (λ (x : LogEntry). e.scn ≤ x.scn) (λ (x : LogEntry). k ≤ x.scn) es (λ x j. omega (arith, j, low)) (above_first e.scn f es h.2))
 
 pub scns_rise : (k f : ℕ) (es : List LogEntry) → ScnsWithin k f es → ScnsRise es
 scns_rise k f [] h = tt
@@ -265,7 +265,7 @@ pub record Begun (log : List LogEntry) (scn : ℕ) : Type 0 where
 pub begun_by : (log : List LogEntry) (scn : ℕ) → ScnsRise log → Begun log scn
 begun_by log scn h =
     let r = scns_split scn log h in
-    record { rest = r.0; whole = r.1; above = λ e m. each-has (λ (x : LogEntry). scn < x.scn) r.0 e r.2 m }
+    record { rest = r.0; whole = r.1; above = λ e m. each_has (λ (x : LogEntry). scn < x.scn) r.0 e r.2 m }
 
 pub rises_first : (xs ys : List LogEntry) → ScnsRise (xs ++ ys) → ScnsRise xs
 rises_first [] ys h = tt
@@ -297,7 +297,7 @@ between log frontier low high l le =
       first = both.0;
       then = both.1;
       from = λ e m.
-          let r = has-filter_back (λ (x : LogEntry). nat_le x.scn high) log e (subst (λ es. Has es e) (sym whole) (has-append_right (upto low log) part.rest e m)) in
+          let r = has_filter_back (λ (x : LogEntry). nat_le x.scn high) log e (subst (λ es. Has es e) (sym whole) (has_append_right (upto low log) part.rest e m)) in
           (contains log e r.0, part.above e m, leb-true e.scn high r.1);
     }
 

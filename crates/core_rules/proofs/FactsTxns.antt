@@ -15,7 +15,7 @@ use Rattle.adg_model.specs.Sound.{SoundFrom, demand, is_running, refusal}
 use Rattle.core_rules.specs.Share.{begins, ends}
 use Rattle.core_rules.specs.State.{At}
 use Rattle.core_rules.specs.LogFacts.{IsLog}
-use Rattle.core_rules.proofs.Lists.{at-same, at-take, at-take_back, at-contains, contains-at}
+use Rattle.core_rules.proofs.Lists.{at_same, at_take, at_take_back, at_contains, contains_at}
 use Rattle.core_rules.proofs.FactsOrder.{positions, rises}
 
 -- a check that holds
@@ -227,12 +227,12 @@ module _ (log : List LogEntry) (frontier : ℕ) (is : IsLog log frontier) where
 
   begin_twice : (t i j : ℕ) (e f : LogEntry) → At log i e → At log j f → begins t e.vector ≡ true → begins t f.vector ≡ true → i < j → ⊥
   begin_twice t i j e f a b h k l =
-      new_begins (found j) f.vector t k (sound_at no_database log j f is.sound b) (begun_after no_database (take j log) i e t (at-take log j i e l a) h)
+      new_begins (found j) f.vector t k (sound_at no_database log j f is.sound b) (begun_after no_database (take j log) i e t (at_take log j i e l a) h)
 
   ended_runs : (t i j : ℕ) (e : LogEntry) → At log i e → ends t e.vector ≡ true → i < j → is_running (found j) t ≡ true → ⊥
   ended_runs t i j e a h l r =
       let p = and_parts ((found j).begun t) (not ((found j).ended t)) r in
-      let over : (found j).ended t ≡ true = ended_after no_database (take j log) i e t (at-take log j i e l a) h in
+      let over : (found j).ended t ≡ true = ended_after no_database (take j log) i e t (at_take log j i e l a) h in
       let c : not true ≡ true = subst (λ b. not b ≡ true) over p.1 in
       true≢false (sym c)
 
@@ -249,47 +249,47 @@ module _ (log : List LogEntry) (frontier : ℕ) (is : IsLog log frontier) where
           → (b : LogEntry) × Contains log b × (begins t b.vector ≡ true) × (b.pos < f.pos) × (b.scn ≤ f.scn)
       either (inl k) = absurd (true≢false (sym k))
       either (inr r) =
-          let p = at-take_back log j r.0 r.1 r.2 in
+          let p = at_take_back log j r.0 r.1 r.2 in
           let before : r.0 < j = p.1 in
           let first : r.1.pos ≡ r.0 = positions log frontier is r.0 r.1 p.0 in
           let second : f.pos ≡ j = positions log frontier is j f b in
-          (r.1, at-contains log r.0 r.1 p.0, r.3, omega arith, rises log frontier is r.0 j r.1 f (omega arith) p.0 b)
+          (r.1, at_contains log r.0 r.1 p.0, r.3, omega arith, rises log frontier is r.0 j r.1 f (omega arith) p.0 b)
 
   pub begun_once : (t : ℕ) (e f : LogEntry) → Contains log e → Contains log f → begins t e.vector ≡ true → begins t f.vector ≡ true → e ≡ f
   begun_once t e f a b h k =
-      let p = contains-at log e a in
-      let q = contains-at log f b in
+      let p = contains_at log e a in
+      let q = contains_at log f b in
       either p.0 q.0 p.1 q.1 (cases_order p.0 q.0)
     where
       either : (i j : ℕ) → At log i e → At log j f → (i ≡ j) ⊎ ((i < j) ⊎ (j < i)) → e ≡ f
       either i j a b (inr (inl l)) = absurd (begin_twice t i j e f a b h k l)
-      either i j a b (inl same) = at-same log j e f (subst (λ n. At log n e) same a) b
+      either i j a b (inl same) = at_same log j e f (subst (λ n. At log n e) same a) b
       either i j a b (inr (inr l)) = absurd (begin_twice t j i f e b a k h l)
 
   pub ended_once : (t : ℕ) (e f : LogEntry) → Contains log e → Contains log f → ends t e.vector ≡ true → ends t f.vector ≡ true → e ≡ f
   ended_once t e f a b h k =
-      let p = contains-at log e a in
-      let q = contains-at log f b in
+      let p = contains_at log e a in
+      let q = contains_at log f b in
       either p.0 q.0 p.1 q.1 (cases_order p.0 q.0)
     where
       either : (i j : ℕ) → At log i e → At log j f → (i ≡ j) ⊎ ((i < j) ⊎ (j < i)) → e ≡ f
       either i j a b (inr (inl l)) = absurd (ended_runs t i j e a h l (end_runs t j f b k))
-      either i j a b (inl same) = at-same log j e f (subst (λ n. At log n e) same a) b
+      either i j a b (inl same) = at_same log j e f (subst (λ n. At log n e) same a) b
       either i j a b (inr (inr l)) = absurd (ended_runs t j i f b k l (end_runs t i e a h))
 
   pub begun_to_touch : (t : ℕ) (a : Place) (e : LogEntry) → Contains log e → touched_by t e.vector ≡ Some a
       → (b : LogEntry) × Contains log b × (begins t b.vector ≡ true) × (b.pos < e.pos) × (b.scn ≤ e.scn)
-  begun_to_touch t a e h k = let p = contains-at log e h in runs_begun t p.0 e p.1 (touch_runs t a p.0 e p.1 k)
+  begun_to_touch t a e h k = let p = contains_at log e h in runs_begun t p.0 e p.1 (touch_runs t a p.0 e p.1 k)
 
   pub begun_to_end : (t : ℕ) (e : LogEntry) → Contains log e → ends t e.vector ≡ true
       → (b : LogEntry) × Contains log b × (begins t b.vector ≡ true) × (b.pos < e.pos) × (b.scn ≤ e.scn)
-  begun_to_end t e h k = let p = contains-at log e h in runs_begun t p.0 e p.1 (end_runs t p.0 e p.1 k)
+  begun_to_end t e h k = let p = contains_at log e h in runs_begun t p.0 e p.1 (end_runs t p.0 e p.1 k)
 
   pub touched_to_end : (t : ℕ) (a : Place) (e f : LogEntry) → Contains log e → Contains log f → touched_by t e.vector ≡ Some a → ends t f.vector ≡ true
       → (e.pos < f.pos) × (e.scn ≤ f.scn)
   touched_to_end t a e f g h k u =
-      let p = contains-at log e g in
-      let q = contains-at log f h in
+      let p = contains_at log e g in
+      let q = contains_at log f h in
       either p.0 q.0 p.1 q.1 (cases_order p.0 q.0)
     where
       either : (i j : ℕ) → At log i e → At log j f → (i ≡ j) ⊎ ((i < j) ⊎ (j < i)) → (e.pos < f.pos) × (e.scn ≤ f.scn)
@@ -298,6 +298,6 @@ module _ (log : List LogEntry) (frontier : ℕ) (is : IsLog log frontier) where
           let second : f.pos ≡ j = positions log frontier is j f y in
           (omega arith, rises log frontier is i j e f (omega arith) x y)
       either i j x y (inl same) =
-          let one : e ≡ f = at-same log j e f (subst (λ n. At log n e) same x) y in
+          let one : e ≡ f = at_same log j e f (subst (λ n. At log n e) same x) y in
           absurd (touch_no_end t a f.vector (subst (λ (z : LogEntry). touched_by t z.vector ≡ Some a) one k) u)
       either i j x y (inr (inr l)) = absurd (ended_runs t j i f y u l (touch_runs t a i e x k))

@@ -9,51 +9,51 @@ use Rattle.core_rules.specs.Parts.{NumbersAre, QuiesceIs, ProgressIs, PartitionI
 use Rattle.core_rules.specs.Share.{share, shares}
 use Rattle.core_rules.specs.UnitParts.{UnitIsPrecise, PopulationIs, TicketsDiffer, HasItsUnits, ScanIs}
 use Rattle.core_rules.specs.Invariant.{Invariant, Precise, WorkerIs, mined_of_all, AllUnits, AllPopulations, AllTied, AllScans}
-use Rattle.core_rules.proofs.Lists.{at-set_cases}
+use Rattle.core_rules.proofs.Lists.{at_set_cases}
 
 -- one for what passes a test, else none
 abbrev bit : Bool → ℕ
 bit b = cond b 1 0
 
-count-cons : {X : Type 0} (p : X → Bool) (x : X) (xs : List X) → count_by p (x ∷ xs) ≡ bit (p x) + count_by p xs
-count-cons p x xs = sum_by-cons (λ y. cond (p y) 1 0) x xs
+count_cons : {X : Type 0} (p : X → Bool) (x : X) (xs : List X) → count_by p (x ∷ xs) ≡ bit (p x) + count_by p xs
+count_cons p x xs = sum_by-cons (λ y. cond (p y) 1 0) x xs
 
 -- One element set: the count loses the old one and gains the new one.
-count-set : {X : Type 0} (p : X → Bool) (xs : List X) (n : ℕ) (x y : X) → At xs n x → count_by p (slice_set xs n y) + bit (p x) ≡ count_by p xs + bit (p y)
-count-set p [] n x y h = let e : None ≡ Some x = h in absurd cc
-count-set p (z ∷ xs) zero x y h =
+count_at_set : {X : Type 0} (p : X → Bool) (xs : List X) (n : ℕ) (x y : X) → At xs n x → count_by p (slice_set xs n y) + bit (p x) ≡ count_by p xs + bit (p y)
+count_at_set p [] n x y h = let e : None ≡ Some x = h in absurd cc
+count_at_set p (z ∷ xs) zero x y h =
     let e : Some z ≡ Some x = h in
     let same : bit (p z) ≡ bit (p x) = let k : z ≡ x = cc in ap (λ w. bit (p w)) k in
-    let new : count_by p (y ∷ xs) ≡ bit (p y) + count_by p xs = count-cons p y xs in
-    let old : count_by p (z ∷ xs) ≡ bit (p z) + count_by p xs = count-cons p z xs in
+    let new : count_by p (y ∷ xs) ≡ bit (p y) + count_by p xs = count_cons p y xs in
+    let old : count_by p (z ∷ xs) ≡ bit (p z) + count_by p xs = count_cons p z xs in
     omega arith
-count-set p (z ∷ xs) (suc n) x y h =
-    let ih : count_by p (slice_set xs n y) + bit (p x) ≡ count_by p xs + bit (p y) = count-set p xs n x y h in
-    let new : count_by p (z ∷ slice_set xs n y) ≡ bit (p z) + count_by p (slice_set xs n y) = count-cons p z (slice_set xs n y) in
-    let old : count_by p (z ∷ xs) ≡ bit (p z) + count_by p xs = count-cons p z xs in
+count_at_set p (z ∷ xs) (suc n) x y h =
+    let ih : count_by p (slice_set xs n y) + bit (p x) ≡ count_by p xs + bit (p y) = count_at_set p xs n x y h in
+    let new : count_by p (z ∷ slice_set xs n y) ≡ bit (p z) + count_by p (slice_set xs n y) = count_cons p z (slice_set xs n y) in
+    let old : count_by p (z ∷ xs) ≡ bit (p z) + count_by p xs = count_cons p z xs in
     omega arith
 
 -- As many hold publication back where the session does as before, one more where it does only now, and one less
 -- where it did.
-pub holders-same : (sessions : List Session) (place : ℕ) (old new : Session) → At sessions place old → holds_back new ≡ holds_back old
+pub holders_same : (sessions : List Session) (place : ℕ) (old new : Session) → At sessions place old → holds_back new ≡ holds_back old
     → holders (slice_set sessions place new) ≡ holders sessions
-holders-same sessions place old new h e =
-    let k : count_by holds_back (slice_set sessions place new) + bit (holds_back old) ≡ count_by holds_back sessions + bit (holds_back new) = count-set holds_back sessions place old new h in
+holders_same sessions place old new h e =
+    let k : count_by holds_back (slice_set sessions place new) + bit (holds_back old) ≡ count_by holds_back sessions + bit (holds_back new) = count_at_set holds_back sessions place old new h in
     let same : bit (holds_back new) ≡ bit (holds_back old) = ap bit e in
     omega arith
 
-pub holders-more : (sessions : List Session) (place : ℕ) (old new : Session) → At sessions place old → holds_back old ≡ false → holds_back new ≡ true
+pub holders_more : (sessions : List Session) (place : ℕ) (old new : Session) → At sessions place old → holds_back old ≡ false → holds_back new ≡ true
     → holders (slice_set sessions place new) ≡ holders sessions + 1
-holders-more sessions place old new h e f =
-    let k : count_by holds_back (slice_set sessions place new) + bit (holds_back old) ≡ count_by holds_back sessions + bit (holds_back new) = count-set holds_back sessions place old new h in
+holders_more sessions place old new h e f =
+    let k : count_by holds_back (slice_set sessions place new) + bit (holds_back old) ≡ count_by holds_back sessions + bit (holds_back new) = count_at_set holds_back sessions place old new h in
     let none : bit (holds_back old) ≡ 0 = ap bit e in
     let one : bit (holds_back new) ≡ 1 = ap bit f in
     omega arith
 
-pub holders-less : (sessions : List Session) (place : ℕ) (old new : Session) → At sessions place old → holds_back old ≡ true → holds_back new ≡ false
+pub holders_less : (sessions : List Session) (place : ℕ) (old new : Session) → At sessions place old → holds_back old ≡ true → holds_back new ≡ false
     → holders (slice_set sessions place new) + 1 ≡ holders sessions
-holders-less sessions place old new h e f =
-    let k : count_by holds_back (slice_set sessions place new) + bit (holds_back old) ≡ count_by holds_back sessions + bit (holds_back new) = count-set holds_back sessions place old new h in
+holders_less sessions place old new h e f =
+    let k : count_by holds_back (slice_set sessions place new) + bit (holds_back old) ≡ count_by holds_back sessions + bit (holds_back new) = count_at_set holds_back sessions place old new h in
     let one : bit (holds_back old) ≡ 1 = ap bit e in
     let none : bit (holds_back new) ≡ 0 = ap bit f in
     omega arith
@@ -73,8 +73,8 @@ TicketIsOwn sessions place (Scanning s) = Unit {0}
 abbrev pub with_own : CoreState → (place : ℕ) → Session → Quiesce → Units → (next : ℕ) → CoreState
 with_own c place what quiesce units next = record c { quiesce = quiesce; units = units; sessions = slice_set c.sessions place what; ticket = next }
 
-later-ticket : (log : List LogEntry) (query old next : ℕ) (p : Population) → old ≤ next → PopulationIs log query old p → PopulationIs log query next p
-later-ticket log query old next p l h = record {
+later_ticket : (log : List LogEntry) (query old next : ℕ) (p : Population) → old ≤ next → PopulationIs log query old p → PopulationIs log query next p
+later_ticket log query old next p l h = record {
   snapshot = h.snapshot;
   held = h.held;
   ticket = let k : p.ticket < old = h.ticket in omega arith;
@@ -91,8 +91,8 @@ module _ (c : CoreState) (place : ℕ) (what : Session) (quiesce : Quiesce) (uni
   abbrev new : CoreState
   new = with_own c place what quiesce units next
 
-  each-worker : cut_through c.query quiesce ≡ limit c → (worker : ℕ) (w : Worker) → At c.workers worker w → WorkerIs new worker w
-  each-worker same worker w found =
+  every_worker : cut_through c.query quiesce ≡ limit c → (worker : ℕ) (w : Worker) → At c.workers worker w → WorkerIs new worker w
+  every_worker same worker w found =
       let h = i.workers worker w found in
       record {
         counts = h.counts;
@@ -102,37 +102,37 @@ module _ (c : CoreState) (place : ℕ) (what : Session) (quiesce : Quiesce) (uni
         partition = subst (λ (n : ℕ). PartitionIs c.log c.born n (take w.mined (share (length c.workers) worker c.log)) w.ends) (sym same) h.partition;
       }
 
-  each-population : c.ticket ≤ next → SessionIs c.log c.query next units what → AllPopulations new
-  each-population later is n p h = either (at-set_cases c.sessions place n (Populating p) what h)
+  each_population : c.ticket ≤ next → SessionIs c.log c.query next units what → AllPopulations new
+  each_population later is n p h = either (at_set_cases c.sessions place n (Populating p) what h)
     where
       either : ((n ≡ place) × (Populating p ≡ what)) ⊎ ((n ≡ place → ⊥) × At c.sessions n (Populating p)) → PopulationIs c.log c.query next p
       either (inl e) = let k : SessionIs c.log c.query next units (Populating p) = subst (λ (s : Session). SessionIs c.log c.query next units s) (sym e.1) is in k.0
-      either (inr e) = later-ticket c.log c.query c.ticket next p later (i.populations n p e.1)
+      either (inr e) = later_ticket c.log c.query c.ticket next p later (i.populations n p e.1)
 
-  each-tied : ((n : ℕ) (p : Population) → (n ≡ place → ⊥) → At c.sessions n (Populating p) → HasItsUnits units p) → SessionIs c.log c.query next units what → AllTied new
-  each-tied others is n p h = either (at-set_cases c.sessions place n (Populating p) what h)
+  each_tied : ((n : ℕ) (p : Population) → (n ≡ place → ⊥) → At c.sessions n (Populating p) → HasItsUnits units p) → SessionIs c.log c.query next units what → AllTied new
+  each_tied others is n p h = either (at_set_cases c.sessions place n (Populating p) what h)
     where
       either : ((n ≡ place) × (Populating p ≡ what)) ⊎ ((n ≡ place → ⊥) × At c.sessions n (Populating p)) → HasItsUnits units p
       either (inl e) = let k : SessionIs c.log c.query next units (Populating p) = subst (λ (s : Session). SessionIs c.log c.query next units s) (sym e.1) is in k.1
       either (inr e) = others n p e.0 e.1
 
-  each-scan : SessionIs c.log c.query next units what → AllScans new
-  each-scan is n s h = either (at-set_cases c.sessions place n (Scanning s) what h)
+  each_scan : SessionIs c.log c.query next units what → AllScans new
+  each_scan is n s h = either (at_set_cases c.sessions place n (Scanning s) what h)
     where
       either : ((n ≡ place) × (Scanning s ≡ what)) ⊎ ((n ≡ place → ⊥) × At c.sessions n (Scanning s)) → ScanIs c.log c.query s
       either (inl e) = subst (λ (x : Session). SessionIs c.log c.query next units x) (sym e.1) is
       either (inr e) = i.scans n s e.1
 
-  each-ticket : TicketIsOwn c.sessions place what → TicketsDiffer (slice_set c.sessions place what)
-  each-ticket own m n p q hp hq same = either (at-set_cases c.sessions place m (Populating p) what hp) (at-set_cases c.sessions place n (Populating q) what hq)
+  each_ticket : TicketIsOwn c.sessions place what → TicketsDiffer (slice_set c.sessions place what)
+  each_ticket own m n p q hp hq same = either (at_set_cases c.sessions place m (Populating p) what hp) (at_set_cases c.sessions place n (Populating q) what hq)
     where
-      is-own : (p : Population) → Populating p ≡ what → TicketIsOwn c.sessions place (Populating p)
-      is-own p e = subst (λ (s : Session). TicketIsOwn c.sessions place s) (sym e) own
+      is_own : (p : Population) → Populating p ≡ what → TicketIsOwn c.sessions place (Populating p)
+      is_own p e = subst (λ (s : Session). TicketIsOwn c.sessions place s) (sym e) own
       either : ((m ≡ place) × (Populating p ≡ what)) ⊎ ((m ≡ place → ⊥) × At c.sessions m (Populating p))
           → ((n ≡ place) × (Populating q ≡ what)) ⊎ ((n ≡ place → ⊥) × At c.sessions n (Populating q)) → m ≡ n
       either (inl a) (inl b) = a.0 ∙ sym b.0
-      either (inl a) (inr b) = absurd (is-own p a.1 n q b.0 b.1 (sym same))
-      either (inr a) (inl b) = absurd (is-own q b.1 m p a.0 a.1 same)
+      either (inl a) (inr b) = absurd (is_own p a.1 n q b.0 b.1 (sym same))
+      either (inr a) (inl b) = absurd (is_own q b.1 m p a.0 a.1 same)
       either (inr a) (inr b) = i.tickets m n p q a.1 b.1 same
 
   -- An event of one session keeps the invariant where it cuts nothing and the rest is shown.
@@ -146,7 +146,7 @@ module _ (c : CoreState) (place : ℕ) (what : Session) (quiesce : Quiesce) (uni
     quiesce = held;
     shards = i.shards;
     manned = i.manned;
-    workers = each-worker same;
+    workers = every_worker same;
     ddl = subst (λ (n : ℕ). DdlIs n (mined_of_all c) c.ddl) (sym same) i.ddl;
     flush = record {
       items = subst (λ (n : ℕ). ItemsAre c.log c.born c.query n (shares (length c.workers) c.log) (items_of c.links)) (sym same) i.flush.items;
@@ -154,10 +154,10 @@ module _ (c : CoreState) (place : ℕ) (what : Session) (quiesce : Quiesce) (uni
       collected = i.flush.collected;
     };
     units = stand;
-    populations = each-population later is;
-    tickets = each-ticket own;
-    tied = each-tied others is;
-    scans = each-scan is;
+    populations = each_population later is;
+    tickets = each_ticket own;
+    tied = each_tied others is;
+    scans = each_scan is;
   }
 
   -- It keeps the precision of marks where all units have it.
@@ -166,12 +166,12 @@ module _ (c : CoreState) (place : ℕ) (what : Session) (quiesce : Quiesce) (uni
   session_precise same each obj extent u h = subst (λ (n : ℕ). UnitIsPrecise c.log c.born n u) (sym same) (each obj extent u h)
 
 -- The same of an event that changes one session alone, which holds publication back where it did.
-pub still-held : (c : CoreState) (place : ℕ) (old what : Session) → Invariant c → At c.sessions place old → holds_back what ≡ holds_back old
+pub still_held : (c : CoreState) (place : ℕ) (old what : Session) → Invariant c → At c.sessions place old → holds_back what ≡ holds_back old
     → QuiesceIs c.quiesce c.query (holders (slice_set c.sessions place what)) c.links
-still-held c place old what i found holds =
-    subst (λ (n : ℕ). QuiesceIs c.quiesce c.query n c.links) (sym (holders-same c.sessions place old what found holds)) i.quiesce
+still_held c place old what i found holds =
+    subst (λ (n : ℕ). QuiesceIs c.quiesce c.query n c.links) (sym (holders_same c.sessions place old what found holds)) i.quiesce
 
 pub one_session_keeps : (c : CoreState) (place : ℕ) (old what : Session) → Invariant c → At c.sessions place old → holds_back what ≡ holds_back old
     → TicketIsOwn c.sessions place what → SessionIs c.log c.query c.ticket c.units what → Invariant (with_own c place what c.quiesce c.units c.ticket)
 one_session_keeps c place old what i found holds own is =
-    session_keeps c place what c.quiesce c.units c.ticket i refl (still-held c place old what i found holds) (omega arith) i.units (λ n p apart h. i.tied n p h) own is
+    session_keeps c place what c.quiesce c.units c.ticket i refl (still_held c place old what i found holds) (omega arith) i.units (λ n p apart h. i.tied n p h) own is

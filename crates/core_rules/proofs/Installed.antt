@@ -12,8 +12,8 @@ use Rattle.core_rules.specs.Populations.{Installs, awaits, filled, with_unit, un
 use Rattle.core_rules.specs.UnitParts.{UnitIs, UnitIsBuilt, ColumnsAre, UnitIsPrecise, PopulationIs, HasItsUnits}
 use Rattle.core_rules.specs.Invariant.{Invariant, Precise, unit_place, AllUnits}
 use Rattle.core_rules.proofs.Keeps.{Keeps, KeepsPrecise}
-use Rattle.core_rules.proofs.Holds.{session_keeps, still-held, SessionIs, TicketIsOwn}
-use Rattle.core_rules.proofs.Populated.{unit-cases}
+use Rattle.core_rules.proofs.Holds.{session_keeps, still_held, SessionIs, TicketIsOwn}
+use Rattle.core_rules.proofs.Populated.{unit_cases}
 
 -- a unit with its columns
 abbrev with_columns : ColumnUnit → List PlacedRow → ColumnUnit
@@ -37,15 +37,15 @@ awaited ticket rows (Some w) u h k =
     (w, refl, eqb-true w.ticket ticket both.1, cc)
 
 -- After it a unit is filled so, or stood.
-installed-cases : (units : Units) (p : Population) (obj extent : ℕ) (u : ColumnUnit) → units_installed p units obj extent ≡ Some u
+installed_cases : (units : Units) (p : Population) (obj extent : ℕ) (u : ColumnUnit) → units_installed p units obj extent ≡ Some u
     → IsFilled units p obj extent u ⊎ (units obj extent ≡ Some u)
-installed-cases units p obj extent u h = by_test (awaits p.ticket (units p.obj p.extent)) refl h
+installed_cases units p obj extent u h = by_test (awaits p.ticket (units p.obj p.extent)) refl h
   where
     by_test : (b : Bool) → awaits p.ticket (units p.obj p.extent) ≡ b
         → (if b then with_unit p.obj p.extent (filled p.read (units p.obj p.extent)) units else units) obj extent ≡ Some u
         → IsFilled units p obj extent u ⊎ (units obj extent ≡ Some u)
     by_test false k e = inr e
-    by_test true k e = either (unit-cases units p.obj p.extent obj extent (filled p.read (units p.obj p.extent)) u e)
+    by_test true k e = either (unit_cases units p.obj p.extent obj extent (filled p.read (units p.obj p.extent)) u e)
       where
         either : ((obj ≡ p.obj) × (extent ≡ p.extent) × (filled p.read (units p.obj p.extent) ≡ Some u)) ⊎ (units obj extent ≡ Some u)
             → IsFilled units p obj extent u ⊎ (units obj extent ≡ Some u)
@@ -56,21 +56,21 @@ installed-cases units p obj extent u h = by_test (awaits p.ticket (units p.obj p
 
 -- Where all blocks are read, the rows read are those of the extent as the definition at the snapshot has them.
 module _ (c : CoreState) (p : Population) (is : PopulationIs c.log c.query c.ticket p) (whole : 16 ≤ p.blocks) where
-  all-read : p.read ≡ extent_rows (rows_at c.log p.snapshot) p.obj (length p.table.kinds) p.extent
-  all-read =
+  all_read : p.read ≡ extent_rows (rows_at c.log p.snapshot) p.obj (length p.table.kinds) p.extent
+  all_read =
       let most : p.blocks ≤ 16 = is.blocks in
       let e : p.blocks ≡ 16 = omega arith in
       is.read ∙ ap (rows_of_blocks (rows_at c.log p.snapshot) p.obj (length p.table.kinds) (16 * p.extent)) e
 
   -- so a unit with the population's ticket is built when it has them
-  filled-built : (w : ColumnUnit) → w.snapshot ≡ p.snapshot → UnitIsBuilt c.log p.obj p.extent w → UnitIsBuilt c.log p.obj p.extent (with_columns w p.read)
-  filled-built w at built = record {
+  filled_built : (w : ColumnUnit) → w.snapshot ≡ p.snapshot → UnitIsBuilt c.log p.obj p.extent w → UnitIsBuilt c.log p.obj p.extent (with_columns w p.read)
+  filled_built w at built = record {
     table = built.table;
     defined = built.defined;
     in_memory = built.in_memory;
     within = built.within;
     columns =
-      all-read
+      all_read
       ∙ ap (λ (n : ℕ). extent_rows (rows_at c.log n) p.obj (length p.table.kinds) p.extent) (sym at)
       ∙ ap (λ (t : Table). extent_rows (rows_at c.log w.snapshot) p.obj (length t.kinds) p.extent) (sym same_table);
   }
@@ -80,12 +80,12 @@ module _ (c : CoreState) (p : Population) (is : PopulationIs c.log c.query c.tic
           let there : Some built.table ≡ Some p.table = sym built.defined ∙ ap (λ (n : ℕ). table_at c.log n p.obj) at ∙ is.defined in
           cc
 
-  filled-is : (place : ℕ) (w : ColumnUnit) → w.snapshot ≡ p.snapshot → UnitIs c.log c.query c.ticket c.links place p.obj p.extent w
+  filled_is : (place : ℕ) (w : ColumnUnit) → w.snapshot ≡ p.snapshot → UnitIs c.log c.query c.ticket c.links place p.obj p.extent w
       → UnitIs c.log c.query c.ticket c.links place p.obj p.extent (with_columns w p.read)
-  filled-is place w at unit = record {
+  filled_is place w at unit = record {
     snapshot = unit.snapshot;
     ticket = unit.ticket;
-    built = filled-built w at unit.built;
+    built = filled_built w at unit.built;
     covered = unit.covered;
     stands = unit.stands;
   }
@@ -94,16 +94,16 @@ module _ (c : CoreState) (p : Population) (is : PopulationIs c.log c.query c.tic
 abbrev next_extent : Population → ℕ → Population
 next_extent p installed = record p { extent = p.extent + 1; blocks = 0; read = []; installed = installed }
 
-pub installed-most : (p : Population) (units : Units) → p.installed ≤ p.extent → installed_then p units ≤ p.extent + 1
-installed-most p units h = by_test (awaits p.ticket (units p.obj p.extent))
+pub installed_most : (p : Population) (units : Units) → p.installed ≤ p.extent → installed_then p units ≤ p.extent + 1
+installed_most p units h = by_test (awaits p.ticket (units p.obj p.extent))
   where
     by_test : (b : Bool) → (if b then p.installed + 1 else p.installed) ≤ p.extent + 1
     by_test true = omega arith
     by_test false = omega arith
 
-next-is : (log : List LogEntry) (query next : ℕ) (p : Population) (installed : ℕ) → PopulationIs log query next p → p.extent + 1 < p.table.extents → installed ≤ p.extent + 1
+next_is : (log : List LogEntry) (query next : ℕ) (p : Population) (installed : ℕ) → PopulationIs log query next p → p.extent + 1 < p.table.extents → installed ≤ p.extent + 1
     → PopulationIs log query next (next_extent p installed)
-next-is log query next p installed is more most = record {
+next_is log query next p installed is more most = record {
   snapshot = is.snapshot;
   held = is.held;
   ticket = is.ticket;
@@ -118,7 +118,7 @@ next-is log query next p installed is more most = record {
 
 pub install_keeps : (session : ℕ) (answer : CoreAnswer) → Keeps (λ c new. Installs c session answer new)
 install_keeps session answer facts c new r i = subst Invariant (sym r.effect)
-    (session_keeps c r.place what c.quiesce units c.ticket i refl (still-held c r.place (Populating p) what i r.is.found back) (omega arith) stand others own is)
+    (session_keeps c r.place what c.quiesce units c.ticket i refl (still_held c r.place (Populating p) what i r.is.found back) (omega arith) stand others own is)
   where
     p : Population
     p = r.population
@@ -138,7 +138,7 @@ install_keeps session answer facts c new r i = subst Invariant (sym r.effect)
         by_test true = refl
         by_test false = sym r.released
     stand : (o e : ℕ) (u : ColumnUnit) → units o e ≡ Some u → UnitIs c.log c.query c.ticket c.links (unit_place c o e) o e u
-    stand o e u h = either (installed-cases c.units p o e u h)
+    stand o e u h = either (installed_cases c.units p o e u h)
       where
         either : IsFilled c.units p o e u ⊎ (c.units o e ≡ Some u) → UnitIs c.log c.query c.ticket c.links (unit_place c o e) o e u
         either (inr k) = i.units o e u k
@@ -147,10 +147,10 @@ install_keeps session answer facts c new r i = subst Invariant (sym r.effect)
             subst (λ (m : ℕ). UnitIs c.log c.query c.ticket c.links (unit_place c m e) m e u) (sym k.object)
               (subst (λ (m : ℕ). UnitIs c.log c.query c.ticket c.links (unit_place c p.obj m) p.obj m u) (sym k.at)
                 (subst (λ (w : ColumnUnit). UnitIs c.log c.query c.ticket c.links (unit_place c p.obj p.extent) p.obj p.extent w) k.same
-                  (filled-is c p was r.whole (unit_place c p.obj p.extent) k.was at (i.units p.obj p.extent k.was k.stood))))
+                  (filled_is c p was r.whole (unit_place c p.obj p.extent) k.was at (i.units p.obj p.extent k.was k.stood))))
     -- a unit keeps its ticket, its object and its snapshot
     tied : (n : ℕ) (q : Population) → At c.sessions n (Populating q) → HasItsUnits units q
-    tied n q found o e u h same = either (installed-cases c.units p o e u h)
+    tied n q found o e u h same = either (installed_cases c.units p o e u h)
       where
         either : IsFilled c.units p o e u ⊎ (c.units o e ≡ Some u) → (o ≡ q.obj) × (u.snapshot ≡ q.snapshot)
         either (inr k) = i.tied n q found o e u k same
@@ -171,14 +171,14 @@ install_keeps session answer facts c new r i = subst Invariant (sym r.effect)
       where
         by_test : (b : Bool) → has_more p ≡ b → SessionIs c.log c.query c.ticket units (if b then Populating (next_extent p installed) else Free)
         by_test true k =
-            (next-is c.log c.query c.ticket p installed was (ltb-true (p.extent + 1) p.table.extents k) (installed-most p c.units was.installed), tied r.place p r.is.found)
+            (next_is c.log c.query c.ticket p installed was (ltb-true (p.extent + 1) p.table.extents k) (installed_most p c.units was.installed), tied r.place p r.is.found)
         by_test false k = tt
 
 pub install_precise : (session : ℕ) (answer : CoreAnswer) → KeepsPrecise (λ c new. Installs c session answer new)
 install_precise session answer facts c new r i precise = subst Precise (sym r.effect) each
   where
     each : (o e : ℕ) (u : ColumnUnit) → units_installed r.population c.units o e ≡ Some u → UnitIsPrecise c.log c.born (limit c) u
-    each o e u h = either (installed-cases c.units r.population o e u h)
+    each o e u h = either (installed_cases c.units r.population o e u h)
       where
         either : IsFilled c.units r.population o e u ⊎ (c.units o e ≡ Some u) → UnitIsPrecise c.log c.born (limit c) u
         either (inr k) = precise o e u k

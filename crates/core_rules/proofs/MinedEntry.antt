@@ -23,11 +23,11 @@ use Rattle.core_rules.specs.Applying.{Mines, AreaTakes, mined_node, mined_ddl, e
 use Rattle.core_rules.specs.LogFacts.{LogFacts, LogHasFacts}
 use Rattle.core_rules.specs.Parts.{AreaIs, IsGone, PartitionIs, DdlIs, mined_from}
 use Rattle.core_rules.specs.Invariant.{Invariant, Precise, WorkerIs}
-use Rattle.core_rules.proofs.Lists.{Has, has, contains, has-append_left, has-append_right, has-append_cases, at-same, at-contains, contains-at, at-map, at-take, take-next, map-set, each-drop_next, any-contains, any-contains_back, filter-order, contains-take}
-use Rattle.core_rules.proofs.Shares.{share-log, share-own, share-contains, begin-shard, end-shard, note-touches, node-is, begun-entry, entry-begun}
+use Rattle.core_rules.proofs.Lists.{Has, has, contains, has_append_left, has_append_right, has_append_cases, at_same, at_contains, contains_at, at_map, at_take, take_next, map_set, each_drop_next, any_contains, any_contains_back, filter_order, contains_take}
+use Rattle.core_rules.proofs.Shares.{share_log, share_own, share_contains, begin_shard, end_shard, note_touches, node_is, begun_entry, entry_begun}
 use Rattle.core_rules.proofs.Keeps.{Keeps, KeepsPrecise}
 use Rattle.core_rules.proofs.Items.{items_end, next_is_above}
-use Rattle.core_rules.proofs.Crew.{IsIn, hold-same, with_crew, counts_with, crew_keeps}
+use Rattle.core_rules.proofs.Crew.{IsIn, hold_same, with_crew, counts_with, crew_keeps}
 use Rattle.core_rules.proofs.MinedLists.{SplitsMined, splits_mined, mined_ddl_keeps}
 
 -- what is mined as a beginning begins, and the other way round
@@ -72,12 +72,12 @@ begin_mined log e t h = by_vector e.vector h
 -- the mark of an area by its test
 begin_held : (area : List Held) (t : ℕ) → holds_begin area t ≡ true → HoldsBegin area t
 begin_held area t h =
-    let r = any-contains_back (λ (x : Held). (x.txn == t) && x.begun) area h in
+    let r = any_contains_back (λ (x : Held). (x.txn == t) && x.begun) area h in
     let p = and_parts (r.0.txn == t) r.0.begun r.2 in
     record { held = r.0; within = r.1; of = eqb-true r.0.txn t p.0; noted = p.1 }
 
 held_begin : (area : List Held) (t : ℕ) → HoldsBegin area t → holds_begin area t ≡ true
-held_begin area t h = any-contains (λ (x : Held). (x.txn == t) && x.begun) area h.held h.within (and_from (h.held.txn == t) h.held.begun (eq-eqb h.held.txn t h.of) h.noted)
+held_begin area t h = any_contains (λ (x : Held). (x.txn == t) && x.begun) area h.held h.within (and_from (h.held.txn == t) h.held.begun (eq-eqb h.held.txn t h.of) h.noted)
 
 same_tests : (a b : Bool) → (a ≡ true → b ≡ true) → (b ≡ true → a ≡ true) → a ≡ b
 same_tests true b h k = sym (h refl)
@@ -158,12 +158,12 @@ pub record IsNextMined (c : CoreState) (worker : ℕ) (w : Worker) (e : LogEntry
 
 pub next_mined : (c : CoreState) → Invariant c → (worker : ℕ) (w : Worker) (e : LogEntry) → At c.workers worker w → At (share_of c worker) w.mined e → IsNextMined c worker w e
 next_mined c v worker w e h k =
-    let there = at-contains (share_of c worker) w.mined e k in
+    let there = at_contains (share_of c worker) w.mined e k in
     record {
       found = h;
       next = k;
-      within = share-log (length c.workers) worker c.log e there;
-      own = share-own (length c.workers) worker c.log e there;
+      within = share_log (length c.workers) worker c.log e there;
+      own = share_own (length c.workers) worker c.log e there;
       above = (next_is_above c v worker w e h k).1;
     }
 
@@ -212,9 +212,9 @@ begin_is_mined c facts v worker w e n t b h k u = by_place (cases_order at.0 w.m
     log : LogFacts c.log c.frontier
     log = facts c.log c.frontier v.log
     own : is_shared_by (length c.workers) worker (shard_of_vector b.vector) ≡ true
-    own = subst (λ o. is_shared_by (length c.workers) worker o ≡ true) (end-shard t e.vector h ∙ sym (begin-shard t b.vector u)) n.own
+    own = subst (λ o. is_shared_by (length c.workers) worker o ≡ true) (end_shard t e.vector h ∙ sym (begin_shard t b.vector u)) n.own
     at : (i : ℕ) × At (share_of c worker) i b
-    at = contains-at (share_of c worker) b (share-contains (length c.workers) worker c.log b k own)
+    at = contains_at (share_of c worker) b (share_contains (length c.workers) worker c.log b k own)
     earlier : b.pos < e.pos
     earlier = pos_of (log.begun_to_end t e n.within h)
       where
@@ -226,7 +226,7 @@ begin_is_mined c facts v worker w e n t b h k u = by_place (cases_order at.0 w.m
             omega arith
     not_later : w.mined < at.0 → ⊥
     not_later l =
-        let r = filter-order (λ (x : LogEntry). is_shared_by (length c.workers) worker (shard_of_vector x.vector)) c.log w.mined at.0 e b l n.next at.1 in
+        let r = filter_order (λ (x : LogEntry). is_shared_by (length c.workers) worker (shard_of_vector x.vector)) c.log w.mined at.0 e b l n.next at.1 in
         let e_pos : e.pos ≡ r.0 = log.positions r.0 e r.2 in
         let b_pos : b.pos ≡ r.1 = log.positions r.1 b r.3 in
         let less : r.0 < r.1 = r.4 in
@@ -235,11 +235,11 @@ begin_is_mined c facts v worker w e n t b h k u = by_place (cases_order at.0 w.m
     by_place : (at.0 ≡ w.mined) ⊎ ((at.0 < w.mined) ⊎ (w.mined < at.0)) → Contains (take w.mined (share_of c worker)) b
     by_place (inl same) =
         let b_at : At (share_of c worker) w.mined b = subst (λ i. At (share_of c worker) i b) same at.1 in
-        let one : b ≡ e = at-same (share_of c worker) w.mined b e b_at n.next in
+        let one : b ≡ e = at_same (share_of c worker) w.mined b e b_at n.next in
         let poses : b.pos ≡ e.pos = ap (λ (x : LogEntry). x.pos) one in
         let before : b.pos < e.pos = earlier in
         absurd (omega arith)
-    by_place (inr (inl l)) = at-contains (take w.mined (share_of c worker)) at.0 b (at-take (share_of c worker) w.mined at.0 b l at.1)
+    by_place (inr (inl l)) = at_contains (take w.mined (share_of c worker)) at.0 b (at_take (share_of c worker) w.mined at.0 b l at.1)
     by_place (inr (inr l)) = absurd (not_later l)
 
 -- So the mark of the area tells whether all changes of a transaction that ends next were noted.
@@ -252,17 +252,17 @@ mark_tells c facts v worker w e n t h = same_tests (holds_begin w.area t) (begun
     noted : holds_begin w.area t ≡ true → begun_above c.log c.born t ≡ true
     noted k =
         let r = area.begun t (begin_held w.area t k) in
-        let there = share-log (length c.workers) worker c.log r.entry (contains-take w.mined (share_of c worker) r.entry r.within) in
-        entry-begun c.log c.born t r.entry there r.begin r.above
+        let there = share_log (length c.workers) worker c.log r.entry (contains_take w.mined (share_of c worker) r.entry r.within) in
+        entry_begun c.log c.born t r.entry there r.begin r.above
     begun : begun_above c.log c.born t ≡ true → holds_begin w.area t ≡ true
     begun k =
-        let b = begun-entry c.log c.born t k in
+        let b = begun_entry c.log c.born t k in
         let in_mined = begin_is_mined c facts v worker w e n t b.0 h b.1 b.2 in
         held_begin w.area t (area.holds_begin t (record { entry = b.0; within = in_mined; above = b.3; begin = b.2 }) (end_not_gone c facts v worker w e n worker t h))
 
 -- the entries mined with the next one
 one_more_cases : (xs : List LogEntry) (n : ℕ) (e x : LogEntry) → At xs n e → Contains (take (n + 1) xs) x → Contains (take n xs) x ⊎ (x ≡ e)
-one_more_cases xs n e x h k = either (has-append_cases (take n xs) (e ∷ []) x (subst (λ es. Has es x) (take-next xs n e h) (has (take (n + 1) xs) x k)))
+one_more_cases xs n e x h k = either (has_append_cases (take n xs) (e ∷ []) x (subst (λ es. Has es x) (take_next xs n e h) (has (take (n + 1) xs) x k)))
   where
     either : Has (take n xs) x ⊎ Has (e ∷ []) x → Contains (take n xs) x ⊎ (x ≡ e)
     either (inl u) = inl (contains (take n xs) x u)
@@ -270,10 +270,10 @@ one_more_cases xs n e x h k = either (has-append_cases (take n xs) (e ∷ []) x 
     either (inr (inr u)) = absurd u
 
 one_more_old : (xs : List LogEntry) (n : ℕ) (e x : LogEntry) → At xs n e → Contains (take n xs) x → Contains (take (n + 1) xs) x
-one_more_old xs n e x h k = contains (take (n + 1) xs) x (subst (λ es. Has es x) (sym (take-next xs n e h)) (has-append_left (take n xs) (e ∷ []) x (has (take n xs) x k)))
+one_more_old xs n e x h k = contains (take (n + 1) xs) x (subst (λ es. Has es x) (sym (take_next xs n e h)) (has_append_left (take n xs) (e ∷ []) x (has (take n xs) x k)))
 
 one_more_new : (xs : List LogEntry) (n : ℕ) (e : LogEntry) → At xs n e → Contains (take (n + 1) xs) e
-one_more_new xs n e h = contains (take (n + 1) xs) e (subst (λ es. Has es e) (sym (take-next xs n e h)) (has-append_right (take n xs) (e ∷ []) e (inl refl)))
+one_more_new xs n e h = contains (take (n + 1) xs) e (subst (λ es. Has es e) (sym (take_next xs n e h)) (has_append_right (take n xs) (e ∷ []) e (inl refl)))
 
 -- the area with what the next entry notes
 mined_area : (c : CoreState) → LogHasFacts → Invariant c → (worker : ℕ) (w : Worker) (e : LogEntry) → IsNextMined c worker w e → (area : List Held)
@@ -302,7 +302,7 @@ mined_area c facts v worker w e n area takes = record {
     noted t a (inr h) = record { entry = e; within = one_more_new entries w.mined e n.next; above = above; notes = h }
     stays : (t : ℕ) (a : Place) → HoldsPlace w.area t a ⊎ (mined_of c.log e ≡ Some (mined.Note t a)) → IsGone c.log c.born c.query c.links worker t → ⊥
     stays t a (inl h) g = old.stays t a h g
-    stays t a (inr h) g = touch_not_gone c facts v worker w e n worker t a (note-touches c.log e t a h) g
+    stays t a (inr h) g = touch_not_gone c facts v worker w e n worker t a (note_touches c.log e t a h) g
     holds : (t : ℕ) (a : Place) → NotedIn c.log c.born (take (w.mined + 1) entries) t a → (IsGone c.log c.born c.query c.links worker t → ⊥) → HoldsPlace area t a
     holds t a r g = either (one_more_cases entries w.mined e r.entry n.next r.within)
       where
@@ -337,7 +337,7 @@ mined_partition c facts v worker w e n = sym all
     entries = take w.mined (share_of c worker)
     above : (m : Node) → node_of complete e ≡ Some m → limit c < m.scn
     above m h =
-        let is : m.scn ≡ e.scn = (node-is complete e m h).scn in
+        let is : m.scn ≡ e.scn = (node_is complete e m h).scn in
         let l : limit c < e.scn = n.above in
         omega arith
     old : filter (λ (x : Node). nat_lt (limit c) x.scn) (nodes_of c.log c.born entries) ≡ w.ends
@@ -346,13 +346,13 @@ mined_partition c facts v worker w e n = sym all
     last = kept_node (limit c) e (node_of complete e) above ∙ ap option_to_list (sym (same_node c.log e w.area complete (mark_tells c facts v worker w e n)))
     all : filter (λ (x : Node). nat_lt (limit c) x.scn) (nodes_of c.log c.born (take (w.mined + 1) (share_of c worker))) ≡ w.ends ++ option_to_list (mined_node e w.area (mined_of c.log e))
     all =
-        ap (λ es. filter (λ (x : Node). nat_lt (limit c) x.scn) (nodes_of c.log c.born es)) (take-next (share_of c worker) w.mined e n.next)
+        ap (λ es. filter (λ (x : Node). nat_lt (limit c) x.scn) (nodes_of c.log c.born es)) (take_next (share_of c worker) w.mined e n.next)
         ∙ ap (filter (λ (x : Node). nat_lt (limit c) x.scn)) (filter_map-append (node_of complete) entries (e ∷ []))
         ∙ filter-append (λ (x : Node). nat_lt (limit c) x.scn) (nodes_of c.log c.born entries) (nodes_of c.log c.born (e ∷ []))
         ∙ ap₂ (λ xs ys. xs ++ ys) old last
 
 pub mine_keeps : (worker : ℕ) → Keeps (λ c new. Mines c worker new)
-mine_keeps worker facts c new r v = subst Invariant (sym r.effect) (crew_keeps c worker x c.shards ddl v v.shards (hold-same c.shards) is ddl_is)
+mine_keeps worker facts c new r v = subst Invariant (sym r.effect) (crew_keeps c worker x c.shards ddl v v.shards (hold_same c.shards) is ddl_is)
   where
     what : Option Mined
     what = mined_of c.log r.entry
@@ -369,7 +369,7 @@ mine_keeps worker facts c new r v = subst Invariant (sym r.effect) (crew_keeps c
       counts = record {
         behind = let b : r.was.mined < r.was.applied = r.behind in omega arith;
         within = was_is.counts.within;
-        above = each-drop_next (λ (e : LogEntry). r.was.progress < e.scn) r.was.mined (share_of c worker) was_is.counts.above;
+        above = each_drop_next (λ (e : LogEntry). r.was.progress < e.scn) r.was.mined (share_of c worker) was_is.counts.above;
       };
       progress = was_is.progress;
       applied = was_is.applied;
@@ -381,10 +381,10 @@ mine_keeps worker facts c new r v = subst Invariant (sym r.effect) (crew_keeps c
     zero_more : worker ≡ 0 + worker
     zero_more = omega arith
     parts : SplitsMined (length c.workers) 0 worker c.log counts r.was.mined r.entry
-    parts = splits_mined (length c.workers) 0 worker c.log counts r.was.mined r.entry (at-map (λ (w : Worker). w.mined) c.workers worker r.was r.found)
+    parts = splits_mined (length c.workers) 0 worker c.log counts r.was.mined r.entry (at_map (λ (w : Worker). w.mined) c.workers worker r.was r.found)
       (subst (λ i. At (share (length c.workers) i c.log) r.was.mined r.entry) zero_more r.next)
     ddl_is : DdlIs (limit c) (mined_from (length c.workers) 0 c.log (counts_with c worker x)) ddl
-    ddl_is = subst (λ es. DdlIs (limit c) es ddl) (sym (ap (mined_from (length c.workers) 0 c.log) (map-set (λ (w : Worker). w.mined) c.workers worker x) ∙ parts.is))
+    ddl_is = subst (λ es. DdlIs (limit c) es ddl) (sym (ap (mined_from (length c.workers) 0 c.log) (map_set (λ (w : Worker). w.mined) c.workers worker x) ∙ parts.is))
       (mined_ddl_keeps (limit c) parts.before parts.later r.entry c.ddl (mined_ddl r.entry what) (sym (same_ddl c.log r.entry)) above
         (subst (λ es. DdlIs (limit c) es c.ddl) parts.was v.ddl))
       where

@@ -11,7 +11,7 @@ use Rattle.core_rules.specs.Share.{share, ddl_of, ddl_in}
 use Rattle.core_rules.specs.State.{At}
 use Rattle.core_rules.specs.Applying.{entered, entered_if}
 use Rattle.core_rules.specs.Parts.{mined_from, AreByScn, DdlIs}
-use Rattle.core_rules.proofs.Lists.{take-next}
+use Rattle.core_rules.proofs.Lists.{take_next}
 
 -- what was mined before a worker's next entry, and what of the workers after it
 pub record SplitsMined (workers place worker : ℕ) (log : List LogEntry) (counts : List ℕ) (m : ℕ) (e : LogEntry) : Type 0 where
@@ -27,7 +27,7 @@ splits_mined workers place zero log (n ∷ ns) m e h k = record {
   before = take m (share workers place log);
   later = mined_from workers (place + 1) log ns;
   was = ap (λ i. take i (share workers place log) ++ mined_from workers (place + 1) log ns) same;
-  is = ap (λ es. es ++ mined_from workers (place + 1) log ns) (take-next (share workers place log) m e at)
+  is = ap (λ es. es ++ mined_from workers (place + 1) log ns) (take_next (share workers place log) m e at)
     ∙ append_assoc (take m (share workers place log)) (e ∷ []) (mined_from workers (place + 1) log ns);
 }
   where
@@ -51,8 +51,8 @@ splits_mined workers place (suc worker) log (n ∷ ns) m e h k = step (splits_mi
 abbrev pub kept_ddl : ℕ → List LogEntry → List DdlNode
 kept_ddl limit entries = filter (λ (n : DdlNode). nat_lt limit n.scn) (ddl_in entries)
 
-pub kept_ddl-append : (limit : ℕ) (xs ys : List LogEntry) → kept_ddl limit (xs ++ ys) ≡ kept_ddl limit xs ++ kept_ddl limit ys
-kept_ddl-append limit xs ys =
+pub kept_ddl_append : (limit : ℕ) (xs ys : List LogEntry) → kept_ddl limit (xs ++ ys) ≡ kept_ddl limit xs ++ kept_ddl limit ys
+kept_ddl_append limit xs ys =
     ap (filter (λ (n : DdlNode). nat_lt limit n.scn)) (filter_map-append ddl_of xs ys) ∙ filter-append (λ (n : DdlNode). nat_lt limit n.scn) (ddl_in xs) (ddl_in ys)
 
 -- entering a node
@@ -104,16 +104,16 @@ mined_ddl_keeps limit before later e ddl None h l r = record {
 }
   where
     all : kept_ddl limit (before ++ e ∷ later) ≡ kept_ddl limit (before ++ later)
-    all = kept_ddl-append limit before (e ∷ later) ∙ ap (λ ns. kept_ddl limit before ++ ns) (kept_none limit e later h) ∙ sym (kept_ddl-append limit before later)
+    all = kept_ddl_append limit before (e ∷ later) ∙ ap (λ ns. kept_ddl limit before ++ ns) (kept_none limit e later h) ∙ sym (kept_ddl_append limit before later)
 mined_ddl_keeps limit before later e ddl (Some d) h l r = record {
   same = subst (λ ns. IsPermutation ns (entered d ddl)) (sym all) moved;
   order = entered_order d ddl r.order;
 }
   where
     all : kept_ddl limit (before ++ e ∷ later) ≡ kept_ddl limit before ++ d ∷ kept_ddl limit later
-    all = kept_ddl-append limit before (e ∷ later) ∙ ap (λ ns. kept_ddl limit before ++ ns) (kept_some limit e later d h (l d refl))
+    all = kept_ddl_append limit before (e ∷ later) ∙ ap (λ ns. kept_ddl limit before ++ ns) (kept_some limit e later d h (l d refl))
     old : IsPermutation (kept_ddl limit before ++ kept_ddl limit later) ddl
-    old = subst (λ ns. IsPermutation ns ddl) (kept_ddl-append limit before later) r.same
+    old = subst (λ ns. IsPermutation ns ddl) (kept_ddl_append limit before later) r.same
     front : IsPermutation (kept_ddl limit before ++ d ∷ kept_ddl limit later) (d ∷ ddl)
     front = IsPermutation-trans (kept_ddl limit before ++ d ∷ kept_ddl limit later) (d ∷ (kept_ddl limit before ++ kept_ddl limit later)) (d ∷ ddl)
       (IsPermutation-middle (kept_ddl limit before) d (kept_ddl limit later))

@@ -5,7 +5,7 @@ use Rattle.std.specs.List.{swap}
 use Rattle.std.proofs.lemmas.Bool.{cases_order}
 use Rattle.std.proofs.lemmas.List.Sorted.{IsPermutation-refl, IsPermutation-sym, IsPermutation-trans, IsPermutation-cons, IsPermutation-middle, IsPermutation-keeps}
 use Rattle.core_rules.specs.State.{At}
-use Rattle.core_rules.proofs.Lists.{at-exists}
+use Rattle.core_rules.proofs.Lists.{at_exists}
 
 -- the list without the element at a place
 abbrev pub without : {X : Type 0} → ℕ → List X → List X
@@ -113,8 +113,8 @@ get_at (z ∷ zs) (suc n) d x h = get_at zs n d x h
 swapped : {X : Type 0} (p : X → Bool) (xs : List X) (i j : ℕ) → i < length xs → j < length xs → IsPermutation (filter p xs) (filter p (swap xs i j))
 swapped p [] i j l k = IsPermutation-refl []
 swapped p (z ∷ zs) i j l k =
-    let a = at-exists (z ∷ zs) i l in
-    let b = at-exists (z ∷ zs) j k in
+    let a = at_exists (z ∷ zs) i l in
+    let b = at_exists (z ∷ zs) j k in
     let ea : get_or (z ∷ zs) i z ≡ a.0 = get_at (z ∷ zs) i z a.0 a.1 in
     let eb : get_or (z ∷ zs) j z ≡ b.0 = get_at (z ∷ zs) j z b.0 b.1 in
     subst (λ w. IsPermutation (filter p (z ∷ zs)) (filter p (slice_set (slice_set (z ∷ zs) i (get_or (z ∷ zs) j z)) j w))) (sym ea)

@@ -8,27 +8,27 @@ use Rattle.core_rules.specs.Flush.{Publishes}
 use Rattle.core_rules.specs.Parts.{QuiesceIs, IsGone, DdlIs, PartitionIs, ProgressIs}
 use Rattle.core_rules.specs.UnitParts.{PopulationIs, ScanIs}
 use Rattle.core_rules.specs.Invariant.{Invariant, WorkerIs, AllUnits, mined_of_all}
-use Rattle.core_rules.proofs.Lists.{Has, has-at, each-at}
+use Rattle.core_rules.proofs.Lists.{Has, has_at, each_at}
 use Rattle.core_rules.proofs.Keeps.{Keeps, KeepsPart}
 use Rattle.core_rules.proofs.Items.{items_end, ends_have_items}
-use Rattle.core_rules.proofs.Crew.{WorkerAt, worker-is}
+use Rattle.core_rules.proofs.Crew.{WorkerAt, worker_is}
 use Rattle.core_rules.proofs.Restarted.{no_items, no_claims, none_collected}
 use Rattle.core_rules.proofs.Staged.{area_gone}
-use Rattle.core_rules.proofs.Once.{count-cons}
+use Rattle.core_rules.proofs.Once.{count_cons}
 
 -- where nobody holds publication back, no population does
 pub one_holds : (sessions : List Session) (place : ℕ) (s : Session) → At sessions place s → holds_back s ≡ true → 1 ≤ holders sessions
-one_holds sessions place s h k = step sessions (has-at sessions place s h)
+one_holds sessions place s h k = step sessions (has_at sessions place s h)
   where
     step : (xs : List Session) → Has xs s → 1 ≤ count_by holds_back xs
     step [] a = absurd a
     step (x ∷ xs) (inl e) =
         let one : cond {A = ℕ} (holds_back x) 1 0 ≡ 1 = ap (λ b. cond {A = ℕ} b 1 0) (ap holds_back e ∙ k) in
-        let all = count-cons holds_back x xs in
+        let all = count_cons holds_back x xs in
         omega arith
     step (x ∷ xs) (inr a) =
         let ih : 1 ≤ count_by holds_back xs = step xs a in
-        let all = count-cons holds_back x xs in
+        let all = count_cons holds_back x xs in
         omega arith
 
 -- a worklink that is done is past every place
@@ -108,7 +108,7 @@ publish_keeps units facts c new r v = subst Invariant (sym r.effect) (record {
               number = item.number;
               link = item.link;
               found = item.found;
-              past = finished_past place item.link.stage (each-at (λ (x : Link). is_finished x.stage ≡ true) c.links item.number item.link r.done item.found);
+              past = finished_past place item.link.stage (each_at (λ (x : Link). is_finished x.stage ≡ true) c.links item.number item.link r.done item.found);
               of = item.has;
             })
     on : (place t : ℕ) → IsGone c.log c.born c.query c.links place t → IsGone c.log c.born r.through [] place t
@@ -131,7 +131,7 @@ publish_keeps units facts c new r v = subst Invariant (sym r.effect) (record {
     each_worker : (n : ℕ) (w : Worker) → At c.workers n w → WorkerIs (record c { query = r.through; quiesce = Idle; links = [] }) n w
     each_worker n w h =
         let is = v.workers n w h in
-        worker-is (record c { query = r.through; quiesce = Idle; links = [] }) (length c.workers) n w refl (record {
+        worker_is (record c { query = r.through; quiesce = Idle; links = [] }) (length c.workers) n w refl (record {
           counts = is.counts;
           progress = subst (λ low. ProgressIs low c.frontier w.progress) cut is.progress;
           applied = is.applied;

@@ -16,7 +16,7 @@ use Rattle.core_rules.specs.Parts.{DdlIs, items_of}
 use Rattle.core_rules.specs.UnitParts.{ColumnsAre, Counts, IsCovered, UnitIs, TouchedWithin, CoarseWithin, PopulationIs, ScanIs}
 use Rattle.core_rules.specs.Invariant.{Invariant, Precise, unit_place}
 use Rattle.core_rules.proofs.Keeps.{Keeps, KeepsPrecise}
-use Rattle.core_rules.proofs.Lists.{contains-filter_map, contains-filter_map_back}
+use Rattle.core_rules.proofs.Lists.{contains_filter_map, contains_filter_map_back}
 use Rattle.core_rules.proofs.Items.{items_end}
 use Rattle.core_rules.proofs.Continued.{tables_stay, rows_stay, touches_stay, commit_was}
 use Rattle.core_rules.proofs.ReceivedParts.{with_log, whole_is, whole_facts, query_received, within_old, within_new, worker_then, same_mined_of_all, same_items, collected_then}
@@ -150,14 +150,14 @@ module _ (facts : LogHasFacts) (c : CoreState) (entries : List LogEntry) (fronti
     where
       touched_then : (a : Place) → TouchedWithin c.log u.snapshot (limit c) a → TouchedWithin whole u.snapshot (limit c) a
       touched_then a r =
-          let t = contains-filter_map_back (λ (x : LogEntry). touched_by r.txn x.vector) c.log a r.touches in
+          let t = contains_filter_map_back (λ (x : LogEntry). touched_by r.txn x.vector) c.log a r.touches in
           record {
             txn = r.txn;
             scn = r.scn;
             commits = record { entry = r.commits.entry; flag = r.commits.flag; within = within_new facts c entries frontier more v r.commits.entry r.commits.within; commits = r.commits.commits; at = r.commits.at };
             above = r.above;
             upto = r.upto;
-            touches = contains-filter_map (λ (x : LogEntry). touched_by r.txn x.vector) whole t.0 a (within_new facts c entries frontier more v t.0 t.1) t.2;
+            touches = contains_filter_map (λ (x : LogEntry). touched_by r.txn x.vector) whole t.0 a (within_new facts c entries frontier more v t.0 t.1) t.2;
           }
 
       coarse_then : CoarseWithin c.log c.born u.snapshot (limit c) → CoarseWithin whole c.born u.snapshot (limit c)

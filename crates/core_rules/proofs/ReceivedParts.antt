@@ -16,8 +16,8 @@ use Rattle.core_rules.specs.State.{CoreState, Worker, At, share_of, limit, has_t
 use Rattle.core_rules.specs.LogFacts.{IsLog, LogFacts, LogHasFacts}
 use Rattle.core_rules.specs.Parts.{CountsAre, AppliedAre, AreaIs, IsGone, PartitionIs, is_within, flush_nodes, flush_ddl, flush_items, NotedBelow, CollectedAre, AllCollected}
 use Rattle.core_rules.specs.Invariant.{Invariant, WorkerIs, mined_of_all}
-use Rattle.core_rules.proofs.Lists.{Has, has, has-filter_back, contains, contains-take, at-map_back, each-append, each-from_has}
-use Rattle.core_rules.proofs.Shares.{share-log, share-own, share-contains, node-is, note-touches}
+use Rattle.core_rules.proofs.Lists.{Has, has, has_filter_back, contains, contains_take, at_map_back, each_append, each_from_has}
+use Rattle.core_rules.proofs.Shares.{share_log, share_own, share_contains, node_is, note_touches}
 use Rattle.core_rules.proofs.Items.{items_end}
 use Rattle.core_rules.proofs.MinedEntry.{ddl_scn}
 use Rattle.core_rules.proofs.Continued.{log_continued, new_is_above, stays_within, was_within, mined_stays, share_grows, take_stays, mined_from_stays, kept_of_shares, touch_was, node_stays, nodes_stay}
@@ -90,14 +90,14 @@ module _ (facts : LogHasFacts) (c : CoreState) (entries : List LogEntry) (fronti
     mined_then = take w.mined (share_of c worker)
 
     of_log : (e : LogEntry) → Contains mined_then e → Contains c.log e
-    of_log e h = share-log (length c.workers) worker c.log e (contains-take w.mined (share_of c worker) e h)
+    of_log e h = share_log (length c.workers) worker c.log e (contains_take w.mined (share_of c worker) e h)
 
     counts_then : CountsAre (share (length c.workers) worker whole) w.applied w.mined w.progress
     counts_then =
         let grows = share_grows c.log entries c.frontier frontier v.log more (length c.workers) worker in
         let upto : w.progress ≤ c.frontier = was.progress.received in
         let fresh : AllByRecursion (λ (e : LogEntry). w.progress < e.scn) (share (length c.workers) worker entries) = fresh_above (length c.workers) entries upto (new_is_above c.log entries c.frontier frontier v.log more) in
-        let rest = each-append (λ (e : LogEntry). w.progress < e.scn) (drop w.mined (share_of c worker)) (share (length c.workers) worker entries) was.counts.above fresh in
+        let rest = each_append (λ (e : LogEntry). w.progress < e.scn) (drop w.mined (share_of c worker)) (share (length c.workers) worker entries) was.counts.above fresh in
         let all : drop w.mined (share (length c.workers) worker whole) ≡ drop w.mined (share_of c worker) ++ share (length c.workers) worker entries = ap (drop w.mined) grows ∙ drop-append-le w.mined (share_of c worker) (share (length c.workers) worker entries) mined_within in
         let longer : length (share (length c.workers) worker whole) ≡ length (share_of c worker) + length (share (length c.workers) worker entries) = ap length grows ∙ length-append (share_of c worker) (share (length c.workers) worker entries) in
         let within : w.applied ≤ length (share_of c worker) = was.counts.within in
@@ -110,8 +110,8 @@ module _ (facts : LogHasFacts) (c : CoreState) (entries : List LogEntry) (fronti
         fresh_above : (workers : ℕ) (xs : List LogEntry) → w.progress ≤ c.frontier → ((e : LogEntry) → Has xs e → c.frontier < e.scn)
             → AllByRecursion (λ (e : LogEntry). w.progress < e.scn) (share workers worker xs)
         fresh_above workers xs l h =
-            each-from_has (λ (e : LogEntry). w.progress < e.scn) (share workers worker xs)
-            (λ e k. let above : c.frontier < e.scn = h e (has-filter_back (λ (x : LogEntry). is_shared_by workers worker (shard_of_vector x.vector)) xs e k).0 in omega arith)
+            each_from_has (λ (e : LogEntry). w.progress < e.scn) (share workers worker xs)
+            (λ e k. let above : c.frontier < e.scn = h e (has_filter_back (λ (x : LogEntry). is_shared_by workers worker (shard_of_vector x.vector)) xs e k).0 in omega arith)
 
     area_then : AreaIs whole c.born c.query c.links worker mined_then w.area
     area_then = record {
@@ -154,7 +154,7 @@ module _ (facts : LogHasFacts) (c : CoreState) (entries : List LogEntry) (fronti
 
   -- of the changes of definitions
   pub same_mined_of_all : mined_of_all (with_log c entries frontier) ≡ mined_of_all c
-  same_mined_of_all = mined_from_stays c.log entries c.frontier frontier v.log more (length c.workers) 0 (map (λ (w : Worker). w.mined) c.workers) (λ i n a. within i n (at-map_back (λ (w : Worker). w.mined) c.workers i n a))
+  same_mined_of_all = mined_from_stays c.log entries c.frontier frontier v.log more (length c.workers) 0 (map (λ (w : Worker). w.mined) c.workers) (λ i n a. within i n (at_map_back (λ (w : Worker). w.mined) c.workers i n a))
     where
       within : (i n : ℕ) → (w : Worker) × At c.workers i w × (w.mined ≡ n) → n ≤ length (share (length c.workers) (0 + i) c.log)
       within i n r =
@@ -175,7 +175,7 @@ module _ (facts : LogHasFacts) (c : CoreState) (entries : List LogEntry) (fronti
       nodes : flush_nodes whole c.born c.query (limit c) (shares (length c.workers) whole) ≡ flush_nodes c.log c.born c.query (limit c) (shares (length c.workers) c.log)
       nodes = kept_of_shares c.log entries c.frontier frontier v.log more (λ (n : Node). is_within c.query (limit c) n.scn) (node_of (begun_above whole c.born)) (node_of (begun_above c.log c.born))
           (node_stays c.log entries c.frontier frontier v.log more whole_facts c.born)
-          (λ e n h k. fresh e n.scn h (node-is (begun_above whole c.born) e n k).scn)
+          (λ e n h k. fresh e n.scn h (node_is (begun_above whole c.born) e n k).scn)
           (length c.workers) (range_with_len 0 (length c.workers))
 
       changes : flush_ddl c.query (limit c) (shares (length c.workers) whole) ≡ flush_ddl c.query (limit c) (shares (length c.workers) c.log)
@@ -196,14 +196,14 @@ module _ (facts : LogHasFacts) (c : CoreState) (entries : List LogEntry) (fronti
       noted_then : (t : ℕ) (a : Place) → NotedBelow c.log c.born (length c.workers) cursor t a → NotedBelow whole c.born (length c.workers) cursor t a
       noted_then t a r =
           let e = r.noted.entry in
-          let there : Contains c.log e = share-log (length c.workers) r.worker c.log e r.noted.within in
+          let there : Contains c.log e = share_log (length c.workers) r.worker c.log e r.noted.within in
           record {
             worker = r.worker;
             known = r.known;
             below = r.below;
             noted = record {
               entry = e;
-              within = share-contains (length c.workers) r.worker whole e (within_new e there) (share-own (length c.workers) r.worker c.log e r.noted.within);
+              within = share_contains (length c.workers) r.worker whole e (within_new e there) (share_own (length c.workers) r.worker c.log e r.noted.within);
               above = r.noted.above;
               notes = same_note e there ∙ r.noted.notes;
             };
@@ -213,15 +213,15 @@ module _ (facts : LogHasFacts) (c : CoreState) (entries : List LogEntry) (fronti
       noted_was t a k r =
           let e = r.noted.entry in
           let ended : EndedWithin c.log c.query (limit c) t = items_end c v n l t h k in
-          let inside : Contains whole e = share-log (length c.workers) r.worker whole e r.noted.within in
-          let there : Contains c.log e = touch_was c.log entries c.frontier frontier v.log more whole_facts t a e ended.entry inside (note-touches whole e t a r.noted.notes) ended.within ended.end in
+          let inside : Contains whole e = share_log (length c.workers) r.worker whole e r.noted.within in
+          let there : Contains c.log e = touch_was c.log entries c.frontier frontier v.log more whole_facts t a e ended.entry inside (note_touches whole e t a r.noted.notes) ended.within ended.end in
           record {
             worker = r.worker;
             known = r.known;
             below = r.below;
             noted = record {
               entry = e;
-              within = share-contains (length c.workers) r.worker c.log e there (share-own (length c.workers) r.worker whole e r.noted.within);
+              within = share_contains (length c.workers) r.worker c.log e there (share_own (length c.workers) r.worker whole e r.noted.within);
               above = r.noted.above;
               notes = sym (same_note e there) ∙ r.noted.notes;
             };

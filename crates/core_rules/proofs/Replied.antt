@@ -20,17 +20,17 @@ use Rattle.core_rules.specs.LogFacts.{LogHasFacts}
 use Rattle.core_rules.specs.Step.{Happens}
 use Rattle.core_rules.specs.Invariant.{Invariant}
 use Rattle.core_rules.specs.Laws.{IsTextOf, RepliesHaveMeaning}
-use Rattle.core_rules.proofs.Lists.{at-same}
-use Rattle.core_rules.proofs.Installed.{installed-most}
+use Rattle.core_rules.proofs.Lists.{at_same}
+use Rattle.core_rules.proofs.Installed.{installed_most}
 use Rattle.core_rules.proofs.ScanLaws.{finished_scans_have_meaning}
 
 -- a refused POPULATE
-population-refused : (log : List LogEntry) (frontier scn obj : ℕ) (text : List ℕ) (said : Reply) (table : Option Table) → table_at log scn obj ≡ table
+population_refused : (log : List LogEntry) (frontier scn obj : ℕ) (text : List ℕ) (said : Reply) (table : Option Table) → table_at log scn obj ≡ table
     → population_refusal scn table ≡ Some said → Spells text (command.Populate obj) → IsReply log frontier text said
-population-refused log frontier scn obj text said None undefined refused spells =
+population_refused log frontier scn obj text said None undefined refused spells =
     let is : reply.NoTable scn ≡ said = let e : Some (reply.NoTable scn) ≡ Some said = refused in cc in
     subst (IsReply log frontier text) is (record { obj = obj; names = inr spells; undefined = undefined })
-population-refused log frontier scn obj text said (Some table) defined refused spells = by_flag table.flag refl refused
+population_refused log frontier scn obj text said (Some table) defined refused spells = by_flag table.flag refl refused
   where
     by_flag : (b : Bool) → table.flag ≡ b → (if b then None else Some (reply.NotInMemory scn)) ≡ Some said → IsReply log frontier text said
     by_flag true k e = let none : None ≡ Some said = e in absurd cc
@@ -39,12 +39,12 @@ population-refused log frontier scn obj text said (Some table) defined refused s
         subst (IsReply log frontier text) is (record { obj = obj; table = table; spells = spells; defined = defined; plain = k })
 
 -- a refused SELECT
-scan-refused : (log : List LogEntry) (frontier scn : ℕ) (select : Select) (text : List ℕ) (said : Reply) (table : Option Table) → table_at log scn select.obj ≡ table
+scan_refused : (log : List LogEntry) (frontier scn : ℕ) (select : Select) (text : List ℕ) (said : Reply) (table : Option Table) → table_at log scn select.obj ≡ table
     → scan_refusal scn select table ≡ Some said → Spells text (command.Select select) → IsReply log frontier text said
-scan-refused log frontier scn select text said None undefined refused spells =
+scan_refused log frontier scn select text said None undefined refused spells =
     let is : reply.NoTable scn ≡ said = let e : Some (reply.NoTable scn) ≡ Some said = refused in cc in
     subst (IsReply log frontier text) is (record { obj = select.obj; names = inl (select, spells, refl); undefined = undefined })
-scan-refused log frontier scn select text said (Some table) defined refused spells = by_columns (has_columns select table) refl refused
+scan_refused log frontier scn select text said (Some table) defined refused spells = by_columns (has_columns select table) refl refused
   where
     by_types : (b : Bool) → has_columns select table ≡ true → has_types select table ≡ b → (if b then None else Some (reply.WrongType scn)) ≡ Some said → IsReply log frontier text said
     by_types true columns k e = let none : None ≡ Some said = e in absurd cc
@@ -60,12 +60,12 @@ scan-refused log frontier scn select text said (Some table) defined refused spel
         subst (IsReply log frontier text) is (record { select = select; table = table; query = record { spells = spells; defined = defined }; columns = k })
 
 -- A session of a number is one.
-same-session : (c : CoreState) (session m n : ℕ) (x y : Session) → IsSession c session m x → IsSession c session n y → x ≡ y
-same-session c session m n x y h k =
+same_session : (c : CoreState) (session m n : ℕ) (x y : Session) → IsSession c session m x → IsSession c session n y → x ≡ y
+same_session c session m n x y h k =
     let a : session ≡ m + 1 = h.number in
     let b : session ≡ n + 1 = k.number in
     let e : n ≡ m = omega arith in
-    at-same c.sessions m x y h.found (subst (λ (l : ℕ). At c.sessions l y) e k.found)
+    at_same c.sessions m x y h.found (subst (λ (l : ℕ). At c.sessions l y) e k.found)
 
 -- A population is over and says how many extents it filled.
 populated : (c : CoreState) (session : ℕ) (said : Reply) (new : CoreState) (text : List ℕ) → Invariant c → Installs c session (Said said) new
@@ -77,7 +77,7 @@ populated c session said new text i r of = by_more (has_more r.population) r.say
     count : ℕ
     count = installed_then p c.units
     same : of.1 ≡ p
-    same = let e : Populating of.1 ≡ Populating p = same-session c session of.0 r.place (Populating of.1) (Populating p) of.2 r.is in cc
+    same = let e : Populating of.1 ≡ Populating p = same_session c session of.0 r.place (Populating of.1) (Populating p) of.2 r.is in cc
     spells : Spells text (command.Populate p.obj)
     spells = subst (λ (q : Population). Spells text (command.Populate q.obj)) same of.3
     by_more : (b : Bool) → Said said ≡ (if b then Moved else Said (reply.Populated p.snapshot count)) → IsReply c.log c.frontier text said
@@ -85,7 +85,7 @@ populated c session said new text i r of = by_more (has_more r.population) r.say
     by_more false e =
         let is : reply.Populated p.snapshot count ≡ said = let both : Said said ≡ Said (reply.Populated p.snapshot count) = e in cc in
         let was = i.populations r.place p r.is.found in
-        let one_more : count ≤ p.extent + 1 = installed-most p c.units was.installed in
+        let one_more : count ≤ p.extent + 1 = installed_most p c.units was.installed in
         let within : p.extent < p.table.extents = was.extent in
         subst (IsReply c.log c.frontier text) is
           (record { obj = p.obj; table = p.table; spells = spells; defined = was.defined; in_memory = was.in_memory; most = omega arith })
@@ -106,15 +106,15 @@ scanned c session said new text i r of = subst (IsReply c.log c.frontier text) (
     s : Scan
     s = r.scan
     same : of.1 ≡ s
-    same = let e : Scanning of.1 ≡ Scanning s = same-session c session of.0 r.place (Scanning of.1) (Scanning s) of.2 r.is in cc
+    same = let e : Scanning of.1 ≡ Scanning s = same_session c session of.0 r.place (Scanning of.1) (Scanning s) of.2 r.is in cc
     spells : Spells text (command.Select s.select)
     spells = subst (λ (x : Scan). Spells text (command.Select x.select)) same of.3
 
-said-is : (x y : Reply) → Said x ≡ Said y → y ≡ x
-said-is x y e = let both : Said x ≡ Said y = e in cc
+said_is : (x y : Reply) → Said x ≡ Said y → y ≡ x
+said_is x y e = let both : Said x ≡ Said y = e in cc
 
-not-moved : (x : Reply) → Said x ≡ Moved → ⊥
-not-moved x e = let both : Said x ≡ Moved = e in absurd cc
+moved_is_not : (x : Reply) → Said x ≡ Moved → ⊥
+moved_is_not x e = let both : Said x ≡ Moved = e in absurd cc
 
 pub replies_have_meaning : LogHasFacts → RepliesHaveMeaning
 replies_have_meaning facts c e said new text i (inl r) of = let both : Said said ≡ NotReady = r.0 in absurd cc
@@ -130,16 +130,16 @@ replies_have_meaning facts c e said new text i (inr h) of = by_event e h of
     by_event (event.Touch actor) k is = absurd is
     by_event (event.Done actor) k is = absurd is
     by_event event.Publish k is = absurd is
-    by_event (event.PopBegin session obj) (inl k) is = absurd (not-moved said k.0)
-    by_event (event.PopBegin session obj) (inr k) is = subst (IsReply c.log c.frontier text) (said-is said k.reply k.says)
-        (population-refused c.log c.frontier c.query obj text k.reply (table_at c.log c.query obj) refl k.refused.refusal is)
+    by_event (event.PopBegin session obj) (inl k) is = absurd (moved_is_not said k.0)
+    by_event (event.PopBegin session obj) (inr k) is = subst (IsReply c.log c.frontier text) (said_is said k.reply k.says)
+        (population_refused c.log c.frontier c.query obj text k.reply (table_at c.log c.query obj) refl k.refused.refusal is)
     by_event (event.PopRegister session) k is = absurd is
     by_event (event.PopRelease session) k is = absurd is
     by_event (event.PopRead session) k is = absurd is
     by_event (event.PopEnd session) k is = populated c session said new text i k is
-    by_event (event.ScanBegin session select) (inl k) is = absurd (not-moved said k.0)
-    by_event (event.ScanBegin session select) (inr k) is = subst (IsReply c.log c.frontier text) (said-is said k.reply k.says)
-        (scan-refused c.log c.frontier c.query select text k.reply (table_at c.log c.query select.obj) refl k.refused.refusal is)
+    by_event (event.ScanBegin session select) (inl k) is = absurd (moved_is_not said k.0)
+    by_event (event.ScanBegin session select) (inr k) is = subst (IsReply c.log c.frontier text) (said_is said k.reply k.says)
+        (scan_refused c.log c.frontier c.query select text k.reply (table_at c.log c.query select.obj) refl k.refused.refusal is)
     by_event (event.ScanExtent session) k is = absurd is
-    by_event (event.ScanEnd session) k is = subst (IsReply c.log c.frontier text) (said-is said k.reply k.says) (scanned c session k.reply new text i k.refused is)
+    by_event (event.ScanEnd session) k is = subst (IsReply c.log c.frontier text) (said_is said k.reply k.says) (scanned c session k.reply new text i k.refused is)
     by_event event.Restart k is = absurd is

@@ -19,22 +19,22 @@ use Rattle.core_rules.specs.LogFacts.{IsLog, LogFacts, LogHasFacts}
 use Rattle.core_rules.specs.Restarts.{rewound, rewound_workers, restarted}
 use Rattle.core_rules.specs.Parts.{CountsAre, ProgressIs, AppliedAre, AreaIs, IsGone, PartitionIs, DdlIs, mined_from, is_within, flush_nodes, flush_ddl, flush_items, ItemsAre, ClaimsAre, AllCollected, ShardsAre}
 use Rattle.core_rules.specs.Invariant.{Invariant, Precise, WorkerIs}
-use Rattle.core_rules.proofs.Lists.{Has, has, at-has, has-at, has-take, at-map_back, at-take_back, at-take, at-contains, at-replicate, at-within, at-exists, has-append_cases, has-filter_map_back, each-has, each-from, each-drop_at, filter-order, contains-take}
+use Rattle.core_rules.proofs.Lists.{Has, has, at_has, has_at, has_take, at_map_back, at_take_back, at_take, at_contains, at_replicate, at_within, at_exists, has_append_cases, has_filter_map_back, each_has, each_from, each_drop_at, filter_order, contains_take}
 use Rattle.core_rules.proofs.Keeps.{Keeps, KeepsPrecise}
-use Rattle.core_rules.proofs.Shares.{node-is}
+use Rattle.core_rules.proofs.Shares.{node_is}
 use Rattle.core_rules.proofs.MinedEntry.{ddl_scn}
-use Rattle.core_rules.proofs.Crew.{WorkerAt, worker-is}
+use Rattle.core_rules.proofs.Crew.{WorkerAt, worker_is}
 
 -- entries whose SCNs do not fall
 abbrev pub DoNotFall : List LogEntry → Type 0
 DoNotFall xs = (i j : ℕ) (e f : LogEntry) → i < j → At xs i e → At xs j f → e.scn ≤ f.scn
 
-do_not_fall-tail : (x : LogEntry) (xs : List LogEntry) → DoNotFall (x ∷ xs) → DoNotFall xs
-do_not_fall-tail x xs h i j e f l a b = h (suc i) (suc j) e f (omega arith) a b
+do_not_fall_tail : (x : LogEntry) (xs : List LogEntry) → DoNotFall (x ∷ xs) → DoNotFall xs
+do_not_fall_tail x xs h i j e f l a b = h (suc i) (suc j) e f (omega arith) a b
 
 share_rises : (c : CoreState) → LogHasFacts → Invariant c → (worker : ℕ) → DoNotFall (share_of c worker)
 share_rises c facts v worker i j e f l a b =
-    let r = filter-order (λ (x : LogEntry). is_shared_by (length c.workers) worker (shard_of_vector x.vector)) c.log i j e f l a b in
+    let r = filter_order (λ (x : LogEntry). is_shared_by (length c.workers) worker (shard_of_vector x.vector)) c.log i j e f l a b in
     let upto : r.0 ≤ r.1 = omega arith in
     (facts c.log c.frontier v.log).rises r.0 r.1 e f upto r.2 r.3
 
@@ -63,7 +63,7 @@ first_above_before scn (x ∷ xs) n e l h = by_test (nat_lt scn x.scn) refl n l 
     by_test false u (suc m) k a ih = ih m e (omega arith) a
 
 each_above : (scn : ℕ) (x : LogEntry) (xs : List LogEntry) → DoNotFall (x ∷ xs) → scn < x.scn → AllByRecursion (λ (e : LogEntry). scn < e.scn) xs
-each_above scn x xs h l = each-from (λ (e : LogEntry). scn < e.scn) xs (λ e k. above e (at-has xs e (has xs e k)))
+each_above scn x xs h l = each_from (λ (e : LogEntry). scn < e.scn) xs (λ e k. above e (at_has xs e (has xs e k)))
   where
     above : (e : LogEntry) → (n : ℕ) × At xs n e → scn < e.scn
     above e at = let rises : x.scn ≤ e.scn = h 0 (suc at.0) x e (omega arith) refl at.1 in omega arith
@@ -74,7 +74,7 @@ first_above_rest scn [] h = by_count (first_above scn [])
     by_count : (n : ℕ) → AllByRecursion (λ (e : LogEntry). scn < e.scn) (drop n [])
     by_count zero = tt
     by_count (suc n) = tt
-first_above_rest scn (x ∷ xs) h = by_test (nat_lt scn x.scn) refl (first_above_rest scn xs (do_not_fall-tail x xs h))
+first_above_rest scn (x ∷ xs) h = by_test (nat_lt scn x.scn) refl (first_above_rest scn xs (do_not_fall_tail x xs h))
   where
     by_test : (b : Bool) → nat_lt scn x.scn ≡ b → AllByRecursion (λ (e : LogEntry). scn < e.scn) (drop (first_above scn xs) xs)
         → AllByRecursion (λ (e : LogEntry). scn < e.scn) (drop (cond b 0 (first_above scn xs + 1)) (x ∷ xs))
@@ -82,9 +82,9 @@ first_above_rest scn (x ∷ xs) h = by_test (nat_lt scn x.scn) refl (first_above
     by_test false u ih = let e : suc (first_above scn xs) ≡ first_above scn xs + 1 = omega arith in subst (λ n. AllByRecursion (λ (y : LogEntry). scn < y.scn) (drop n (x ∷ xs))) e ih
 
 -- nothing passes a test that nothing passes
-pub filter-none : {X : Type 0} (p : X → Bool) (xs : List X) → ((x : X) → Has xs x → p x ≡ false) → filter p xs ≡ []
-filter-none p [] h = refl
-filter-none p (x ∷ xs) h = ap (λ b. cond b (x ∷ filter p xs) (filter p xs)) (h x (inl refl)) ∙ filter-none p xs (λ y k. h y (inr k))
+pub filter_none : {X : Type 0} (p : X → Bool) (xs : List X) → ((x : X) → Has xs x → p x ≡ false) → filter p xs ≡ []
+filter_none p [] h = refl
+filter_none p (x ∷ xs) h = ap (λ b. cond b (x ∷ filter p xs) (filter p xs)) (h x (inl refl)) ∙ filter_none p xs (λ y k. h y (inr k))
 
 not_above : (scn n : ℕ) → n ≤ scn → nat_lt scn n ≡ false
 not_above scn n h = by_test (nat_lt scn n) refl
@@ -98,16 +98,16 @@ abbrev pub AllUpto : ℕ → List LogEntry → Type 0
 AllUpto scn xs = (e : LogEntry) → Has xs e → e.scn ≤ scn
 
 no_nodes : (scn : ℕ) (complete : ℕ → Bool) (xs : List LogEntry) → AllUpto scn xs → filter (λ (n : Node). nat_lt scn n.scn) (filter_map (node_of complete) xs) ≡ []
-no_nodes scn complete xs h = filter-none (λ (n : Node). nat_lt scn n.scn) (filter_map (node_of complete) xs) (λ n k. each n (has-filter_map_back (node_of complete) xs n k))
+no_nodes scn complete xs h = filter_none (λ (n : Node). nat_lt scn n.scn) (filter_map (node_of complete) xs) (λ n k. each n (has_filter_map_back (node_of complete) xs n k))
   where
     each : (n : Node) → (e : LogEntry) × Has xs e × (node_of complete e ≡ Some n) → nat_lt scn n.scn ≡ false
     each n r =
-        let same : n.scn ≡ r.0.scn = (node-is complete r.0 n r.2).scn in
+        let same : n.scn ≡ r.0.scn = (node_is complete r.0 n r.2).scn in
         let upto : r.0.scn ≤ scn = h r.0 r.1 in
         not_above scn n.scn (omega arith)
 
 no_ddl : (scn : ℕ) (xs : List LogEntry) → AllUpto scn xs → filter (λ (n : DdlNode). nat_lt scn n.scn) (ddl_in xs) ≡ []
-no_ddl scn xs h = filter-none (λ (n : DdlNode). nat_lt scn n.scn) (ddl_in xs) (λ n k. each n (has-filter_map_back ddl_of xs n k))
+no_ddl scn xs h = filter_none (λ (n : DdlNode). nat_lt scn n.scn) (ddl_in xs) (λ n k. each n (has_filter_map_back ddl_of xs n k))
   where
     each : (n : DdlNode) → (e : LogEntry) × Has xs e × (ddl_of e ≡ Some n) → nat_lt scn n.scn ≡ false
     each n r =
@@ -130,8 +130,8 @@ nothing_within scn n = by_test (is_within scn scn n) refl
 pub no_flush : (log : List LogEntry) (born scn : ℕ) (entries : List LogEntry) → flush_items log born scn scn entries ≡ []
 no_flush log born scn entries =
     ap₂ (λ xs ys. map node_item xs ++ map ddl_item ys)
-      (filter-none (λ (n : Node). is_within scn scn n.scn) (nodes_of log born entries) (λ n k. nothing_within scn n.scn))
-      (filter-none (λ (n : DdlNode). is_within scn scn n.scn) (ddl_in entries) (λ n k. nothing_within scn n.scn))
+      (filter_none (λ (n : Node). is_within scn scn n.scn) (nodes_of log born entries) (λ n k. nothing_within scn n.scn))
+      (filter_none (λ (n : DdlNode). is_within scn scn n.scn) (ddl_in entries) (λ n k. nothing_within scn n.scn))
 
 pub no_items : (log : List LogEntry) (born scn : ℕ) (entries : List LogEntry) → ItemsAre log born scn scn entries []
 no_items log born scn entries = record {
@@ -181,33 +181,33 @@ no_holders zero = refl
 no_holders (suc n) = let ih : holders (replicate n Free) ≡ 0 = no_holders n in omega arith
 
 pub all_free : (n place : ℕ) (s : Session) → At (replicate n Free) place s → s ≡ Free
-all_free n place s h = at-replicate n place s Free h
+all_free n place s h = at_replicate n place s Free h
 
 -- the worker at a place of those that go back
-at-range : (n a i k : ℕ) → At (range_with_len a n) i k → (k ≡ a + i) × (i < n)
-at-range zero a i k h = let e : None ≡ Some k = h in absurd cc
-at-range (suc n) a zero k h = let e : Some a ≡ Some k = h in let same : a ≡ k = cc in (omega arith, omega arith)
-at-range (suc n) a (suc i) k h = let r = at-range n (a + 1) i k h in (omega arith, omega arith)
+at_range : (n a i k : ℕ) → At (range_with_len a n) i k → (k ≡ a + i) × (i < n)
+at_range zero a i k h = let e : None ≡ Some k = h in absurd cc
+at_range (suc n) a zero k h = let e : Some a ≡ Some k = h in let same : a ≡ k = cc in (omega arith, omega arith)
+at_range (suc n) a (suc i) k h = let r = at_range n (a + 1) i k h in (omega arith, omega arith)
 
 rewound_at : (query : ℕ) (log : List LogEntry) (workers place : ℕ) (w : Worker) → At (rewound_workers query log workers) place w → (w ≡ rewound query (share workers place log)) × (place < workers)
 rewound_at query log workers place w h =
-    let m = at-map_back (λ n. rewound query (share workers n log)) (range_with_len 0 workers) place w h in
-    let r = at-range workers 0 place m.0 m.1 in
+    let m = at_map_back (λ n. rewound query (share workers n log)) (range_with_len 0 workers) place w h in
+    let r = at_range workers 0 place m.0 m.1 in
     let same : m.0 ≡ place = omega arith in
     (sym m.2 ∙ ap (λ n. rewound query (share workers n log)) same, r.1)
 
 -- what they have mined is at most at the QuerySCN
 taken_upto : (query : ℕ) (xs : List LogEntry) → AllUpto query (take (first_above query xs) xs)
 taken_upto query xs e h =
-    let at = at-has (take (first_above query xs) xs) e h in
-    let back = at-take_back xs (first_above query xs) at.0 e at.1 in
+    let at = at_has (take (first_above query xs) xs) e h in
+    let back = at_take_back xs (first_above query xs) at.0 e at.1 in
     first_above_before query xs at.0 e back.1 back.0
 
 rewound_mined : (query workers : ℕ) (log : List LogEntry) (n a : ℕ)
     → AllUpto query (mined_from workers a log (map (λ (w : Worker). w.mined) (map (λ m. rewound query (share workers m log)) (range_with_len a n))))
 rewound_mined query workers log zero a e h = absurd h
 rewound_mined query workers log (suc n) a e h =
-    either (rewound_mined query workers log n (a + 1) e) (has-append_cases (take (first_above query (share workers a log)) (share workers a log)) later e h)
+    either (rewound_mined query workers log n (a + 1) e) (has_append_cases (take (first_above query (share workers a log)) (share workers a log)) later e h)
   where
     later : List LogEntry
     later = mined_from workers (a + 1) log (map (λ (w : Worker). w.mined) (map (λ m. rewound query (share workers m log)) (range_with_len (a + 1) n)))
@@ -236,21 +236,21 @@ rewound_is c facts v place h = record {
     entries : List LogEntry
     entries = share_of c place
     was : (w : Worker) × At c.workers place w
-    was = at-exists c.workers place h
+    was = at_exists c.workers place h
     was_is : WorkerIs c place was.0
     was_is = v.workers place was.0 was.1
     applied : AppliedAre (take (first_above c.query entries) entries) c.shards
-    applied e k n s own at = was_is.applied e (at-contains (take was.0.applied entries) there.0 e (at-take entries was.0.applied there.0 e before back.0)) n s own at
+    applied e k n s own at = was_is.applied e (at_contains (take was.0.applied entries) there.0 e (at_take entries was.0.applied there.0 e before back.0)) n s own at
       where
         there : (i : ℕ) × At (take (first_above c.query entries) entries) i e
-        there = at-has (take (first_above c.query entries) entries) e (has (take (first_above c.query entries) entries) e k)
+        there = at_has (take (first_above c.query entries) entries) e (has (take (first_above c.query entries) entries) e k)
         back : At entries there.0 e × (there.0 < first_above c.query entries)
-        back = at-take_back entries (first_above c.query entries) there.0 e there.1
+        back = at_take_back entries (first_above c.query entries) there.0 e there.1
         mined : (there.0 < was.0.mined) ⊎ (was.0.mined ≤ there.0) → there.0 < was.0.applied
         mined (inl l) = let b : was.0.mined ≤ was.0.applied = was_is.counts.behind in omega arith
         mined (inr l) =
             let upto : e.scn ≤ c.query = first_above_before c.query entries there.0 e back.1 back.0 in
-            let above : was.0.progress < e.scn = each-drop_at (λ (x : LogEntry). was.0.progress < x.scn) was.0.mined there.0 entries e was_is.counts.above l back.0 in
+            let above : was.0.progress < e.scn = each_drop_at (λ (x : LogEntry). was.0.progress < x.scn) was.0.mined there.0 entries e was_is.counts.above l back.0 in
             let reached : limit c ≤ was.0.progress = was_is.progress.reached in
             let published : c.query ≤ limit c = v.numbers.published in
             absurd (omega arith)
@@ -290,7 +290,7 @@ restart_keeps facts c new r v = subst Invariant (sym r) (record {
     each_worker : (n : ℕ) (w : Worker) → At (rewound_workers c.query c.log (length c.workers)) n w → WorkerIs (restarted c) n w
     each_worker n w h =
         let at = rewound_at c.query c.log (length c.workers) n w h in
-        worker-is (restarted c) (length c.workers) n w same
+        worker_is (restarted c) (length c.workers) n w same
           (subst (λ x. WorkerAt (length c.workers) c.query c.frontier c.log c.query c.query [] c.shards n x) (sym at.0) (rewound_is c facts v n at.1))
     no_ddl_left : filter (λ (n : DdlNode). nat_lt c.query n.scn) (ddl_in (mined_from (length (rewound_workers c.query c.log (length c.workers))) 0 c.log (map (λ (w : Worker). w.mined) (rewound_workers c.query c.log (length c.workers))))) ≡ []
     no_ddl_left = subst (λ m. filter (λ (n : DdlNode). nat_lt c.query n.scn) (ddl_in (mined_from m 0 c.log (map (λ (w : Worker). w.mined) (rewound_workers c.query c.log (length c.workers))))) ≡ []) (sym same)
@@ -302,11 +302,11 @@ restart_precise facts c new r v p = subst Precise (sym r) (λ obj extent u h. le
 -- The opening state.
 nothing_mined : (workers place : ℕ) (counts : List ℕ) → mined_from workers place [] counts ≡ []
 nothing_mined workers place [] = refl
-nothing_mined workers place (n ∷ ns) = ap₂ (λ xs ys. xs ++ ys) (take-nil n) (nothing_mined workers (place + 1) ns)
+nothing_mined workers place (n ∷ ns) = ap₂ (λ xs ys. xs ++ ys) (take_nil n) (nothing_mined workers (place + 1) ns)
   where
-    take-nil : (k : ℕ) → take k (share workers place []) ≡ []
-    take-nil zero = refl
-    take-nil (suc k) = refl
+    take_nil : (k : ℕ) → take k (share workers place []) ≡ []
+    take_nil zero = refl
+    take_nil (suc k) = refl
 
 opened_worker : (c : CoreState) (workers place : ℕ) (shards : List Shard) → WorkerAt workers 0 0 [] 0 0 [] shards place idle_worker
 opened_worker c workers place shards = record {
@@ -324,12 +324,12 @@ opening_meets workers sessions h = record {
   quiesce = (no_holders sessions, refl);
   shards = record {
     count = length-replicate 64 empty_shard;
-    within = λ n s k. let e : s ≡ empty_shard = at-replicate 64 n s empty_shard k in let a : s.applied ≡ 0 = ap (λ (x : Shard). x.applied) e in omega arith;
-    floor = λ n s k. ap (λ (x : Shard). x.floor) (at-replicate 64 n s empty_shard k);
+    within = λ n s k. let e : s ≡ empty_shard = at_replicate 64 n s empty_shard k in let a : s.applied ≡ 0 = ap (λ (x : Shard). x.applied) e in omega arith;
+    floor = λ n s k. ap (λ (x : Shard). x.floor) (at_replicate 64 n s empty_shard k);
   };
   manned = let e : length (replicate workers idle_worker) ≡ workers = length-replicate workers idle_worker in omega arith;
-  workers = λ n w k. worker-is (opening workers sessions) workers n w (length-replicate workers idle_worker)
-    (subst (λ x. WorkerAt workers 0 0 [] 0 0 [] (replicate 64 empty_shard) n x) (sym (at-replicate workers n w idle_worker k)) (opened_worker (opening workers sessions) workers n (replicate 64 empty_shard)));
+  workers = λ n w k. worker_is (opening workers sessions) workers n w (length-replicate workers idle_worker)
+    (subst (λ x. WorkerAt workers 0 0 [] 0 0 [] (replicate 64 empty_shard) n x) (sym (at_replicate workers n w idle_worker k)) (opened_worker (opening workers sessions) workers n (replicate 64 empty_shard)));
   ddl = record {
     same = subst (λ es. IsPermutation (filter (λ (n : DdlNode). nat_lt 0 n.scn) (ddl_in es)) [])
       (sym (nothing_mined (length (replicate workers idle_worker)) 0 (map (λ (w : Worker). w.mined) (replicate workers idle_worker)))) (IsPermutation-refl []);

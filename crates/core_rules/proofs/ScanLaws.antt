@@ -8,22 +8,22 @@ use Rattle.adg_model.specs.Query.{object_places, object_rows, padded, select_lin
 use Rattle.core_rules.specs.State.{CoreState, Scan}
 use Rattle.core_rules.specs.UnitParts.{ScanIs}
 use Rattle.core_rules.specs.Laws.{FinishedScansHaveMeaning}
-use Rattle.core_rules.proofs.Gathered.{bare, bare-rows, map-filter_map, places_of}
+use Rattle.core_rules.proofs.Gathered.{bare, bare_rows, map_filter_map, places_of}
 
 -- The rows of a finished scan are those of its object, as wide as it is.
-scanned-rows : (c : CoreState) (s : Scan) → ScanIs c.log c.query s → s.table.extents ≤ s.extents → s.rows ≡ table_rows (rows_at c.log s.scn) s.select.obj s.table
-scanned-rows c s is whole =
+scanned_rows : (c : CoreState) (s : Scan) → ScanIs c.log c.query s → s.table.extents ≤ s.extents → s.rows ≡ table_rows (rows_at c.log s.scn) s.select.obj s.table
+scanned_rows c s is whole =
     let most : s.extents ≤ s.table.extents = is.extents in
     let all : s.extents ≡ s.table.extents = omega arith in
     is.rows
-    ∙ bare-rows (rows_at c.log s.scn) s.select.obj (length s.table.kinds) 0 (16 * s.extents)
+    ∙ bare_rows (rows_at c.log s.scn) s.select.obj (length s.table.kinds) 0 (16 * s.extents)
     ∙ ap (λ (n : ℕ). filter_map (bare (rows_at c.log s.scn) (length s.table.kinds)) (places_of s.select.obj 0 (16 * n))) all
-    ∙ sym (map-filter_map (padded (length s.table.kinds)) (rows_at c.log s.scn) (object_places s.select.obj s.table.extents))
+    ∙ sym (map_filter_map (padded (length s.table.kinds)) (rows_at c.log s.scn) (object_places s.select.obj s.table.extents))
 
 pub finished_scans_have_meaning : FinishedScansHaveMeaning
 finished_scans_have_meaning c place s i found whole =
     let is = i.scans place s found in
-    let rows = scanned-rows c s is whole in
+    let rows = scanned_rows c s is whole in
     record {
       answer = ap (select_lines s.select) rows;
       split =

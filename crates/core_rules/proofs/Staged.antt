@@ -12,9 +12,9 @@ use Rattle.core_rules.specs.Flush.{with_stage}
 use Rattle.core_rules.specs.Parts.{QuiesceIs, AreaIs, IsGone, DdlIs, mined_from, ItemsAre, items_of, ClaimsAre, stages_of, CollectedAre, AllCollected}
 use Rattle.core_rules.specs.UnitParts.{HasItsUnits}
 use Rattle.core_rules.specs.Invariant.{Invariant, AllUnits}
-use Rattle.core_rules.proofs.Lists.{at-set_cases, at-set_kept, at-set_same, at-same, at-within, at-map, at-map_back, map-set, map-set_same, not-both}
-use Rattle.core_rules.proofs.UnitsPassed.{staged, txn-passes}
-use Rattle.core_rules.proofs.Crew.{WorkerAt, worker-is}
+use Rattle.core_rules.proofs.Lists.{at_set_cases, at_set_kept, at_set_same, at_same, at_within, at_map, at_map_back, map_set, map_set_same, not_both}
+use Rattle.core_rules.proofs.UnitsPassed.{staged, txn_passes}
+use Rattle.core_rules.proofs.Crew.{WorkerAt, worker_is}
 
 -- An area keeps what holds of it where the same transactions are gone from it.
 pub area_gone : (log : List LogEntry) (born query later : ℕ) (links more : List Link) (place : ℕ) (entries : List LogEntry) (area : List Held)
@@ -36,20 +36,20 @@ pub passes_on : (links : List Link) (number : ℕ) (link : Link) (stage : Stage)
 passes_on links number link stage place t found on p = by_number (cases_eq p.number number)
   where
     by_number : (p.number ≡ number) ⊎ (p.number ≡ number → ⊥) → PassesTxn (staged links number link stage) place t
-    by_number (inr d) = record { number = p.number; link = p.link; found = at-set_kept links number p.number p.link (record link { stage = stage }) d p.found; past = p.past; of = p.of }
+    by_number (inr d) = record { number = p.number; link = p.link; found = at_set_kept links number p.number p.link (record link { stage = stage }) d p.found; past = p.past; of = p.of }
     by_number (inl e) =
-        let same : p.link ≡ link = at-same links number p.link link (subst (λ n. At links n p.link) e p.found) found in
+        let same : p.link ≡ link = at_same links number p.link link (subst (λ n. At links n p.link) e p.found) found in
         record {
           number = number;
           link = record link { stage = stage };
-          found = at-set_same links number (record link { stage = stage }) (at-within links number link found);
+          found = at_set_same links number (record link { stage = stage }) (at_within links number link found);
           past = on (subst (λ (l : Link). is_past place l.stage ≡ true) same p.past);
           of = subst (λ (l : Link). has_txn t l.items ≡ true) same p.of;
         }
 
 pub passes_back : (links : List Link) (number : ℕ) (link : Link) (stage : Stage) (place t : ℕ) → At links number link
     → (is_past place stage ≡ true → is_past place link.stage ≡ true) → PassesTxn (staged links number link stage) place t → PassesTxn links place t
-passes_back links number link stage place t found back p = either (txn-passes links number link stage place t p)
+passes_back links number link stage place t found back p = either (txn_passes links number link stage place t p)
   where
     either : PassesTxn links place t ⊎ ((is_past place stage ≡ true) × (has_txn t link.items ≡ true)) → PassesTxn links place t
     either (inl q) = q
@@ -88,7 +88,7 @@ claims_staged workers stages number stage fits is = record { alone = alone; last
   where
     alone : (i j : ℕ) (x y : Stage) (actor : ℕ) → At (slice_set stages number stage) i x → At (slice_set stages number stage) j y
         → is_held_by actor x ≡ true → is_held_by actor y ≡ true → i ≡ j
-    alone i j x y actor a b h k = either (at-set_cases stages number i x stage a) (at-set_cases stages number j y stage b)
+    alone i j x y actor a b h k = either (at_set_cases stages number i x stage a) (at_set_cases stages number j y stage b)
       where
         either : ((i ≡ number) × (x ≡ stage)) ⊎ ((i ≡ number → ⊥) × At stages i x) → ((j ≡ number) × (y ≡ stage)) ⊎ ((j ≡ number → ⊥) × At stages j y) → i ≡ j
         either (inl p) (inl q) = p.0 ∙ sym q.0
@@ -96,14 +96,14 @@ claims_staged workers stages number stage fits is = record { alone = alone; last
         either (inr p) (inl q) = absurd (fits.alone actor i x (subst (λ s. is_held_by actor s ≡ true) q.1 k) p.0 p.1 h)
         either (inr p) (inr q) = is.alone i j x y actor p.1 q.1 h k
     last : (i j : ℕ) (x y : Stage) → i < j → At (slice_set stages number stage) i x → At (slice_set stages number stage) j y → is_unclaimed x ≡ true → is_unclaimed y ≡ true
-    last i j x y l a b h = either (at-set_cases stages number i x stage a) (at-set_cases stages number j y stage b)
+    last i j x y l a b h = either (at_set_cases stages number i x stage a) (at_set_cases stages number j y stage b)
       where
         either : ((i ≡ number) × (x ≡ stage)) ⊎ ((i ≡ number → ⊥) × At stages i x) → ((j ≡ number) × (y ≡ stage)) ⊎ ((j ≡ number → ⊥) × At stages j y) → is_unclaimed y ≡ true
-        either (inl p) q = absurd (not-both (is_unclaimed stage) (subst (λ s. is_unclaimed s ≡ true) p.1 h) fits.claimed)
+        either (inl p) q = absurd (not_both (is_unclaimed stage) (subst (λ s. is_unclaimed s ≡ true) p.1 h) fits.claimed)
         either (inr p) (inl q) = absurd (fits.earlier i x (subst (λ n. i < n) q.0 l) p.1 h)
         either (inr p) (inr q) = is.last i j x y l p.1 q.1 h
     bounds : (i actor cursor : ℕ) (collected : List Collected) → At (slice_set stages number stage) i (Claimed actor cursor collected) → (actor ≤ workers) × (cursor ≤ workers + 32)
-    bounds i actor cursor collected a = either (at-set_cases stages number i (Claimed actor cursor collected) stage a)
+    bounds i actor cursor collected a = either (at_set_cases stages number i (Claimed actor cursor collected) stage a)
       where
         either : ((i ≡ number) × (Claimed actor cursor collected ≡ stage)) ⊎ ((i ≡ number → ⊥) × At stages i (Claimed actor cursor collected)) → (actor ≤ workers) × (cursor ≤ workers + 32)
         either (inl p) = fits.bounds actor cursor collected (sym p.1)
@@ -113,7 +113,7 @@ claims_staged workers stages number stage fits is = record { alone = alone; last
 pub none_earlier : (c : CoreState) → Invariant c → (number : ℕ) (link : Link) → At c.links number link → is_unclaimed link.stage ≡ false
     → (i : ℕ) (x : Stage) → i < number → At (stages_of c.links) i x → is_unclaimed x ≡ true → ⊥
 none_earlier c v number link found h i x l a u =
-    not-both (is_unclaimed link.stage) (v.flush.claims.last i number x link.stage l a (at-map (λ (y : Link). y.stage) c.links number link found) u) h
+    not_both (is_unclaimed link.stage) (v.flush.claims.last i number x link.stage l a (at_map (λ (y : Link). y.stage) c.links number link found) u) h
 
 -- a held worklink at a later cursor, or done
 pub held_fits : (c : CoreState) → Invariant c → (number : ℕ) (link : Link) (actor cursor later : ℕ) (collected more : List Collected) → At c.links number link → link.stage ≡ Claimed actor cursor collected
@@ -126,7 +126,7 @@ held_fits c v number link actor cursor later collected more found h l = record {
 }
   where
     at : At (stages_of c.links) number link.stage
-    at = at-map (λ (x : Link). x.stage) c.links number link found
+    at = at_map (λ (x : Link). x.stage) c.links number link found
     held : (a : ℕ) → (actor == a) ≡ true → is_held_by a link.stage ≡ true
     held a e = ap (is_held_by a) h ∙ e
     alone : (a j : ℕ) (y : Stage) → is_held_by a (Claimed actor later more) ≡ true → (j ≡ number → ⊥) → At (stages_of c.links) j y → is_held_by a y ≡ true → ⊥
@@ -160,7 +160,7 @@ staged_keeps c number link stage workers units v is units_are = record {
   quiesce = flush_goes_on c.quiesce c.query (holders c.sessions) c.links (staged c.links number link stage) number link is.found v.quiesce;
   shards = v.shards;
   manned = subst (λ n. 0 < n) (sym is.as_many) v.manned;
-  workers = λ n w h. worker-is (with_staged c number link stage workers units) (length c.workers) n w is.as_many (is.each n w h);
+  workers = λ n w h. worker_is (with_staged c number link stage workers units) (length c.workers) n w is.as_many (is.each n w h);
   ddl = subst (λ n. DdlIs (limit c) (mined_from n 0 c.log (map (λ (w : Worker). w.mined) workers)) c.ddl) (sym is.as_many)
     (subst (λ ns. DdlIs (limit c) (mined_from (length c.workers) 0 c.log ns) c.ddl) (sym is.mined) v.ddl);
   flush = record {
@@ -178,11 +178,11 @@ staged_keeps c number link stage workers units v is units_are = record {
 }
   where
     same_items : items_of (staged c.links number link stage) ≡ items_of c.links
-    same_items = map-set_same (λ (l : Link). l.items) c.links number link (record link { stage = stage }) is.found refl
+    same_items = map_set_same (λ (l : Link). l.items) c.links number link (record link { stage = stage }) is.found refl
     set_stage : stages_of (staged c.links number link stage) ≡ slice_set (stages_of c.links) number stage
-    set_stage = map-set (λ (l : Link). l.stage) c.links number (record link { stage = stage })
+    set_stage = map_set (λ (l : Link). l.stage) c.links number (record link { stage = stage })
     collected : AllCollected c.log c.born (length c.workers) (staged c.links number link stage)
-    collected n l actor cursor lists at h = either (at-set_cases c.links number n l (record link { stage = stage }) at)
+    collected n l actor cursor lists at h = either (at_set_cases c.links number n l (record link { stage = stage }) at)
       where
         either : ((n ≡ number) × (l ≡ record link { stage = stage })) ⊎ ((n ≡ number → ⊥) × At c.links n l) → CollectedAre c.log c.born (length c.workers) l.items cursor lists
         either (inl p) =
