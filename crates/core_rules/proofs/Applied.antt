@@ -1,19 +1,17 @@
 -- Apply and Raise keep the invariant.
-use Rattle.std.proofs.Common.{◌≡◌, ℕ, ◌+◌, ◌<◌, ◌≤◌, max, Bool, true, false, List, [], ◌∷◌, ◌++◌, map, length, take, Option, Some, None, ◌⊎◌, inl, inr, refl, sym, ap, ◌∙◌, subst, arith, length-set}
+use Rattle.std.proofs.Common.{◌≡◌, ℕ, ◌+◌, ◌<◌, ◌≤◌, max, List, [], ◌∷◌, length, take, Some, ◌⊎◌, inl, inr, refl, sym, ap, ◌∙◌, subst, arith, length-set}
 use Rattle.std.specs.Prelude.{slice_set}
-use Rattle.std.specs.List.{Contains}
 use Rattle.adg_base.specs.Shard.{shard_of_vector}
 use Rattle.adg_base.specs.declared.log.LogEntry.{LogEntry}
-use Rattle.core_rules.specs.Share.{share}
 use Rattle.core_rules.specs.State.{CoreState, Worker, Shard, At, share_of, limit}
 use Rattle.core_rules.specs.Applying.{Applies, Raises}
-use Rattle.core_rules.specs.LogFacts.{LogFacts, LogHasFacts}
-use Rattle.core_rules.specs.Parts.{ShardsAre, CountsAre, AppliedAre, DdlIs, mined_from}
+use Rattle.core_rules.specs.LogFacts.{LogHasFacts}
+use Rattle.core_rules.specs.Parts.{ShardsAre, AppliedAre, DdlIs, mined_from}
 use Rattle.core_rules.specs.Invariant.{Invariant, Precise, WorkerIs}
-use Rattle.core_rules.proofs.Lists.{Has, has, contains, has_append_cases, at_set_cases, at_same, at_within, at_contains, contains_at, take_next, map_set_same}
+use Rattle.core_rules.proofs.Lists.{Has, has, contains, has_append_cases, at_set_cases, at_within, at_contains, contains_at, take_next, map_set_same}
 use Rattle.core_rules.proofs.Shares.{share_log}
 use Rattle.core_rules.proofs.Keeps.{Keeps, KeepsPrecise}
-use Rattle.core_rules.proofs.Crew.{IsIn, HoldMore, hold_same, applied_more, with_crew, counts_with, crew_keeps}
+use Rattle.core_rules.proofs.Crew.{IsIn, HoldMore, hold_same, applied_more, counts_with, crew_keeps}
 
 -- a shard with one entry more
 abbrev one_more : Shard → LogEntry → Shard
@@ -42,12 +40,16 @@ apply_keeps worker facts c new r v = subst Invariant (sym r.effect) (crew_keeps 
   where
     x : Worker
     x = record r.was { applied = r.was.applied + 1 }
+
     shards : List Shard
     shards = slice_set c.shards r.place (one_more r.shard r.entry)
+
     was_is : WorkerIs c worker r.was
     was_is = v.workers worker r.was r.found
+
     more : HoldMore c.shards shards
     more = more_held c.shards r.place r.shard r.entry r.at
+
     shards_are : ShardsAre c.log shards
     shards_are = record { count = length-set c.shards r.place (one_more r.shard r.entry) ∙ v.shards.count; within = within; floor = floor }
       where
@@ -61,16 +63,18 @@ apply_keeps worker facts c new r v = subst Invariant (sym r.effect) (crew_keeps 
                 let pos : r.entry.pos < length c.log = own_pos c facts v worker r.was.applied r.entry r.next in
                 omega arith
             either (inr p) = v.shards.within n s p.1
+
         floor : (n : ℕ) (s : Shard) → At shards n s → s.floor ≡ 0
         floor n s h = either (at_set_cases c.shards r.place n s (one_more r.shard r.entry) h)
           where
             either : ((n ≡ r.place) × (s ≡ one_more r.shard r.entry)) ⊎ ((n ≡ r.place → ⊥) × At c.shards n s) → s.floor ≡ 0
             either (inl p) = ap (λ (y : Shard). y.floor) p.1 ∙ v.shards.floor r.place r.shard r.at
             either (inr p) = v.shards.floor n s p.1
+
     applied : AppliedAre (take (r.was.applied + 1) (share_of c worker)) shards
     applied e h n s own at =
         either (has_append_cases (take r.was.applied (share_of c worker)) (r.entry ∷ []) e
-          (subst (λ es. Has es e) (take_next (share_of c worker) r.was.applied r.entry r.next) (has (take (r.was.applied + 1) (share_of c worker)) e h)))
+        (subst (λ es. Has es e) (take_next (share_of c worker) r.was.applied r.entry r.next) (has (take (r.was.applied + 1) (share_of c worker)) e h)))
       where
         either : Has (take r.was.applied (share_of c worker)) e ⊎ Has (r.entry ∷ []) e → e.pos < s.applied
         either (inl k) = applied_more (take r.was.applied (share_of c worker)) c.shards shards more was_is.applied e (contains (take r.was.applied (share_of c worker)) e k) n s own at
@@ -79,12 +83,14 @@ apply_keeps worker facts c new r v = subst Invariant (sym r.effect) (crew_keeps 
           where
             places : Some r.place ≡ Some n
             places = sym r.own ∙ ap (λ (y : LogEntry). shard_of_vector y.vector) k ∙ own
+
             set_one : ((n ≡ r.place) × (s ≡ one_more r.shard r.entry)) ⊎ ((n ≡ r.place → ⊥) × At c.shards n s) → e.pos < s.applied
             set_one (inl p) =
                 let same : s.applied ≡ max r.shard.applied (r.entry.pos + 1) = ap (λ (y : Shard). y.applied) p.1 in
                 let pos : r.entry.pos ≡ e.pos = ap (λ (y : LogEntry). y.pos) k in
                 omega arith
             set_one (inr p) = absurd (p.0 cc)
+
     is : IsIn c (length c.workers) shards worker x
     is = record {
       counts = record {
@@ -97,6 +103,7 @@ apply_keeps worker facts c new r v = subst Invariant (sym r.effect) (crew_keeps 
       area = was_is.area;
       partition = was_is.partition;
     }
+
     ddl : DdlIs (limit c) (mined_from (length c.workers) 0 c.log (counts_with c worker x)) c.ddl
     ddl = subst (λ ns. DdlIs (limit c) (mined_from (length c.workers) 0 c.log ns) c.ddl) (sym (map_set_same (λ (w : Worker). w.mined) c.workers worker r.was x r.found refl)) v.ddl
 
@@ -108,22 +115,25 @@ raise_keeps worker through facts c new r v = subst Invariant (sym r.effect) (cre
   where
     x : Worker
     x = record r.was { progress = through }
+
     was_is : WorkerIs c worker r.was
     was_is = v.workers worker r.was r.found
+
     is : IsIn c (length c.workers) c.shards worker x
     is = record {
       counts = record { behind = was_is.counts.behind; within = was_is.counts.within; above = r.mined };
       progress = record {
         reached =
-          let reached : limit c ≤ r.was.progress = was_is.progress.reached in
-          let above : r.was.progress < through = r.above in
-          omega arith;
+            let reached : limit c ≤ r.was.progress = was_is.progress.reached in
+            let above : r.was.progress < through = r.above in
+            omega arith;
         received = r.received;
       };
       applied = was_is.applied;
       area = was_is.area;
       partition = was_is.partition;
     }
+
     ddl : DdlIs (limit c) (mined_from (length c.workers) 0 c.log (counts_with c worker x)) c.ddl
     ddl = subst (λ ns. DdlIs (limit c) (mined_from (length c.workers) 0 c.log ns) c.ddl) (sym (map_set_same (λ (w : Worker). w.mined) c.workers worker r.was x r.found refl)) v.ddl
 

@@ -1,32 +1,26 @@
 -- The begin of a flush keeps the invariant, once the units are known to.
-use Rattle.std.proofs.Common.{◌≡◌, ℕ, zero, suc, ◌+◌, ◌<◌, ◌≤◌, Bool, true, false, cond, ◌&&◌, List, [], ◌∷◌, ◌++◌, map, filter, length, take, drop, Option, Some, None, ◌⊎◌, inl, inr, refl, sym, ap, ap₂, ◌∙◌, subst, arith, true≢false, append-nil, IsPermutation}
+use Rattle.std.proofs.Common.{◌≡◌, ℕ, suc, ◌+◌, ◌<◌, ◌≤◌, Bool, true, false, cond, ◌&&◌, List, [], ◌∷◌, ◌++◌, map, filter, length, take, drop, Option, Some, refl, sym, ap, ap₂, ◌∙◌, subst, arith, true≢false, append-nil}
 use Rattle.std.specs.Prelude.{◌==◌, nat_lt, nat_le}
-use Rattle.std.specs.List.{Contains, AllByRecursion, filter_map, flat_map, range_with_len, cons_option, count_by}
-use Rattle.std.proofs.lemmas.Bool.{ltb-true, lt-ltb, eqb-true, eq-eqb, leb-true, and_parts, cases_order}
+use Rattle.std.specs.List.{AllByRecursion, filter_map, flat_map, range_with_len, count_by}
+use Rattle.std.proofs.lemmas.Bool.{ltb-true, lt-ltb, eqb-true, eq-eqb, leb-true, and_parts}
 use Rattle.std.proofs.lemmas.List.{take-append-drop}
 use Rattle.std.proofs.lemmas.List.Elements.{filter-append, filter_map-append}
-use Rattle.std.proofs.lemmas.List.Sorted.{IsPermutation-trans, IsPermutation-map, IsPermutation-append_left, IsPermutation-append_right, sum_by-IsPermutation}
 use Rattle.adg_base.specs.declared.log.LogEntry.{LogEntry}
 use Rattle.adg_base.specs.declared.node.Node.{Node}
 use Rattle.adg_base.specs.declared.node.DdlNode.{DdlNode}
 use Rattle.adg_base.specs.declared.node.Item.{Item}
 use Rattle.adg_model.specs.Mined.{node_item, ddl_item}
 use Rattle.core_rules.specs.Share.{share, shares, ends, begun_above, node_of, nodes_of, ddl_of, ddl_in}
-use Rattle.core_rules.specs.State.{CoreState, Worker, Quiesce, Idle, Link, Stage, Unclaimed, Claimed, Collected, At, share_of, limit, cut_through, holders, is_unclaimed, is_held_by, is_past, is_item_of, has_txn, PassesTxn}
-use Rattle.core_rules.specs.Flush.{BeginsFlush, cut_worker, nodes_upto, unclaimed}
-use Rattle.core_rules.specs.LogFacts.{LogFacts, LogHasFacts}
-use Rattle.core_rules.specs.Parts.{QuiesceIs, IsGone, PartitionIs, AreByScn, DdlIs, mined_from, is_within, flush_nodes, flush_ddl, flush_items, ItemsAre, items_of, ClaimsAre, stages_of, AllCollected}
-use Rattle.core_rules.specs.Invariant.{Invariant, WorkerIs, AllUnits}
-use Rattle.core_rules.proofs.Lists.{Has, has, contains, at_exists, at_map_back, has_filter_map_back, has_map_back, each_has, each_at, each_weaker}
-use Rattle.core_rules.proofs.Shares.{IsNodeOf, node_is}
-use Rattle.core_rules.proofs.Keeps.{Keeps, KeepsPart}
+use Rattle.core_rules.specs.State.{Worker, Link, Stage, Unclaimed, Claimed, At, is_unclaimed, is_held_by, is_item_of}
+use Rattle.core_rules.specs.Flush.{cut_worker, nodes_upto, unclaimed}
+use Rattle.core_rules.specs.LogFacts.{LogFacts}
+use Rattle.core_rules.specs.Parts.{PartitionIs, AreByScn, mined_from, is_within, flush_nodes, flush_ddl, flush_items, items_of, ClaimsAre, stages_of, AllCollected}
+use Rattle.core_rules.proofs.Lists.{Has, at_map_back, has_filter_map_back, has_map_back, each_has}
+use Rattle.core_rules.proofs.Shares.{node_is}
 use Rattle.core_rules.proofs.Items.{item_of_node}
-use Rattle.core_rules.proofs.Crew.{WorkerAt, worker_is}
 use Rattle.core_rules.proofs.Restarted.{filter_none}
 use Rattle.core_rules.proofs.MinedEntry.{ddl_scn}
-use Rattle.core_rules.proofs.Permuted.{filter_permuted}
-use Rattle.core_rules.proofs.Staged.{area_gone}
-use Rattle.core_rules.proofs.Once.{count_append, count_none, count_filter, count_map, count_filter_map, two_counted, end_once}
+use Rattle.core_rules.proofs.Once.{count_append, count_none, count_filter, count_map, count_filter_map, end_once}
 
 -- two tests one after the other
 filter_both : {X : Type 0} (p q : X → Bool) (xs : List X) → filter (λ x. p x && q x) xs ≡ filter q (filter p xs)
@@ -71,6 +65,7 @@ cut_part g scn same low high m entries h =
       where
         r : (e : LogEntry) × Has (drop m entries) e × (g e ≡ Some y)
         r = has_filter_map_back g (drop m entries) y k
+
         by_test : (b : Bool) → is_within low high (scn y) ≡ b → b ≡ false
         by_test false e = refl
         by_test true e =
@@ -111,15 +106,17 @@ nodes_cut log born query through workers place (w ∷ ws) h =
   where
     rest : List LogEntry
     rest = flat_map (λ n. share workers n log) (range_with_len (place + 1) (length ws))
+
     is : CutsRight log born query through workers place w
     is = cut_head log born query through workers place w ws h
+
     first : filter (λ (n : Node). is_within query through n.scn) (nodes_of log born (share workers place log)) ≡ filter (λ (n : Node). nat_le n.scn through) w.ends
     first = cut_part (node_of (begun_above log born)) (λ (n : Node). n.scn) (node_scn log born) query through w.mined (share workers place log) is.above
-      ∙ ap (filter (λ (n : Node). nat_le n.scn through)) (sym is.partition)
+        ∙ ap (filter (λ (n : Node). nat_le n.scn through)) (sym is.partition)
 
 pub ddl_cut : (log : List LogEntry) (born query through workers place : ℕ) (ws : List Worker) → CutRight log born query through workers place ws
     → flush_ddl query through (flat_map (λ w. share workers w log) (range_with_len place (length ws)))
-      ≡ filter (λ (n : DdlNode). nat_le n.scn through) (filter (λ (n : DdlNode). nat_lt query n.scn) (ddl_in (mined_from workers place log (map (λ (w : Worker). w.mined) ws))))
+    ≡ filter (λ (n : DdlNode). nat_le n.scn through) (filter (λ (n : DdlNode). nat_lt query n.scn) (ddl_in (mined_from workers place log (map (λ (w : Worker). w.mined) ws))))
 ddl_cut log born query through workers place [] h = refl
 ddl_cut log born query through workers place (w ∷ ws) h =
     ap (filter (λ (n : DdlNode). is_within query through n.scn)) (filter_map-append ddl_of (share workers place log) rest)
@@ -131,12 +128,16 @@ ddl_cut log born query through workers place (w ∷ ws) h =
   where
     rest : List LogEntry
     rest = flat_map (λ n. share workers n log) (range_with_len (place + 1) (length ws))
+
     mine : List LogEntry
     mine = take w.mined (share workers place log)
+
     others : List LogEntry
     others = mined_from workers (place + 1) log (map (λ (x : Worker). x.mined) ws)
+
     is : CutsRight log born query through workers place w
     is = cut_head log born query through workers place w ws h
+
     first : filter (λ (n : DdlNode). is_within query through n.scn) (ddl_in (share workers place log))
         ≡ filter (λ (n : DdlNode). nat_le n.scn through) (filter (λ (n : DdlNode). nat_lt query n.scn) (ddl_in mine))
     first = cut_part ddl_of (λ (n : DdlNode). n.scn) ddl_scn query through w.mined (share workers place log) is.above
@@ -154,6 +155,7 @@ one_item log frontier born low high workers t facts manned =
   where
     node_ends : (e : LogEntry) (n : Node) → node_of (begun_above log born) e ≡ Some n → (n.txn == t) ≡ true → ends t e.vector ≡ true
     node_ends e n h k = subst (λ m. ends m e.vector ≡ true) (eqb-true n.txn t k) (node_is (begun_above log born) e n h).end
+
     ddl_none : (i : Item) → Has (map ddl_item (flush_ddl low high (shares workers log))) i → is_item_of t i ≡ false
     ddl_none i h = let m = has_map_back ddl_item (flush_ddl low high (shares workers log)) i h in subst (λ j. is_item_of t j ≡ false) m.2 refl
 
@@ -169,6 +171,7 @@ kept_order p (d ∷ ds) h = by_test (p d) (kept_order p ds h.1)
         by_first : (b : Bool) → AllByRecursion (λ (m : DdlNode). d.scn ≤ m.scn) (filter p xs) → AllByRecursion (λ (m : DdlNode). d.scn ≤ m.scn) (cond b (x ∷ filter p xs) (filter p xs))
         by_first true ih = (k.0, ih)
         by_first false ih = ih
+
     by_test : (b : Bool) → AreByScn (filter p ds) → AreByScn (cond b (d ∷ filter p ds) (filter p ds))
     by_test true ih = (kept_each ds h.0, ih)
     by_test false ih = ih

@@ -1,7 +1,7 @@
 -- The begin of a flush keeps the invariant, once the units are known to.
-use Rattle.std.proofs.Common.{◌≡◌, ℕ, ◌+◌, ◌<◌, ◌≤◌, Bool, true, false, List, cond, [], ◌∷◌, ◌++◌, map, filter, length, take, drop, Option, Some, None, ◌⊎◌, inl, inr, refl, sym, ap, ap₂, ◌∙◌, subst, arith, true≢false, IsPermutation}
+use Rattle.std.proofs.Common.{◌≡◌, ℕ, ◌+◌, ◌<◌, ◌≤◌, true, List, cond, [], ◌++◌, map, filter, length, take, drop, Some, None, ◌⊎◌, inl, inr, sym, ap, ◌∙◌, subst, arith, true≢false, IsPermutation}
 use Rattle.std.specs.Prelude.{nat_lt, nat_le}
-use Rattle.std.specs.List.{AllByRecursion, flat_map, range_with_len, count_by}
+use Rattle.std.specs.List.{AllByRecursion, flat_map, count_by}
 use Rattle.std.proofs.lemmas.Bool.{cases_order}
 use Rattle.std.proofs.lemmas.List.{length-map}
 use Rattle.std.proofs.lemmas.List.Sorted.{IsPermutation-trans, IsPermutation-map, IsPermutation-append_left, IsPermutation-append_right, sum_by-IsPermutation}
@@ -10,11 +10,10 @@ use Rattle.adg_base.specs.declared.node.Node.{Node}
 use Rattle.adg_base.specs.declared.node.DdlNode.{DdlNode}
 use Rattle.adg_base.specs.declared.node.Item.{Item}
 use Rattle.adg_model.specs.Mined.{node_item, ddl_item}
-use Rattle.core_rules.specs.Share.{share, shares, nodes_of, ddl_in}
-use Rattle.core_rules.specs.State.{CoreState, Worker, Quiesce, Idle, Flushing, Link, At, share_of, limit, cut_through, holders, is_past, is_item_of, has_txn, PassesTxn}
-use Rattle.core_rules.specs.Flush.{BeginsFlush, cut_worker, nodes_upto, unclaimed}
-use Rattle.core_rules.specs.LogFacts.{LogFacts, LogHasFacts}
-use Rattle.core_rules.specs.Parts.{QuiesceIs, IsGone, PartitionIs, AreByScn, DdlIs, mined_from, flush_nodes, flush_ddl, flush_items, ItemsAre, items_of, ClaimsAre, stages_of, AllCollected}
+use Rattle.core_rules.specs.Share.{shares, nodes_of, ddl_in}
+use Rattle.core_rules.specs.State.{CoreState, Worker, Idle, Flushing, Link, At, share_of, limit, cut_through, holders, is_past, is_item_of, has_txn}
+use Rattle.core_rules.specs.Flush.{BeginsFlush, cut_worker, unclaimed}
+use Rattle.core_rules.specs.Parts.{QuiesceIs, IsGone, PartitionIs, DdlIs, mined_from, flush_nodes, flush_ddl, flush_items, ItemsAre, items_of, ClaimsAre, stages_of, AllCollected}
 use Rattle.core_rules.specs.Invariant.{Invariant, WorkerIs, AllUnits}
 use Rattle.core_rules.proofs.Lists.{at_exists, at_map_back, each_at, each_weaker}
 use Rattle.core_rules.proofs.Keeps.{Keeps, KeepsPart}
@@ -22,7 +21,7 @@ use Rattle.core_rules.proofs.Crew.{WorkerAt, worker_is}
 use Rattle.core_rules.proofs.Permuted.{filter_permuted}
 use Rattle.core_rules.proofs.Staged.{area_gone}
 use Rattle.core_rules.proofs.Once.{two_counted}
-use Rattle.core_rules.proofs.Begun.{filter_stronger, above_more, CutsRight, CutRight, nodes_cut, ddl_cut, one_item, kept_order, same_parts, same_mined, new_stage, new_claims, none_new}
+use Rattle.core_rules.proofs.Begun.{filter_stronger, above_more, CutsRight, CutRight, nodes_cut, ddl_cut, one_item, kept_order, same_parts, same_mined, new_claims, none_new}
 
 -- The state at the begin of a flush: nothing is cut beyond the QuerySCN, and nobody holds publication back.
 pub record IsCalm (c : CoreState) : Type 0 where
@@ -56,9 +55,9 @@ begin_flush_keeps through units facts c new r v = subst Invariant (sym r.effect)
     restarted = v.numbers.restarted;
     published = let l : c.query < through = above in omega arith;
     cut =
-      let progress : through ≤ first.0.progress = each_at (λ (x : Worker). through ≤ x.progress) c.workers 0 first.0 r.can.reached first.1 in
-      let received : first.0.progress ≤ c.frontier = (v.workers 0 first.0 first.1).progress.received in
-      omega arith;
+        let progress : through ≤ first.0.progress = each_at (λ (x : Worker). through ≤ x.progress) c.workers 0 first.0 r.can.reached first.1 in
+        let received : first.0.progress ≤ c.frontier = (v.workers 0 first.0 first.1).progress.received in
+        omega arith;
   };
   quiesce = (idle.none_holds, above);
   shards = v.shards;
@@ -67,7 +66,7 @@ begin_flush_keeps through units facts c new r v = subst Invariant (sym r.effect)
   ddl = ddl_is;
   flush = record {
     items = subst (λ n. ItemsAre c.log c.born c.query through (shares n c.log) (items_of links)) (sym as_many)
-      (subst (λ ps. ItemsAre c.log c.born c.query through (shares (length c.workers) c.log) ps) (sym (same_parts r.parts)) items_are);
+        (subst (λ ps. ItemsAre c.log c.born c.query through (shares (length c.workers) c.log) ps) (sym (same_parts r.parts)) items_are);
     claims = subst (λ n. ClaimsAre n (stages_of links)) (sym as_many) (new_claims (length c.workers) r.parts);
     collected = subst (λ n. AllCollected c.log c.born n links) (sym as_many) (none_new c.log c.born (length c.workers) r.parts);
   };
@@ -80,33 +79,43 @@ begin_flush_keeps through units facts c new r v = subst Invariant (sym r.effect)
   where
     links : List Link
     links = map unclaimed r.parts
+
     workers : List Worker
     workers = map (cut_worker through) c.workers
+
     above : c.query < through
     above = r.can.above
+
     idle : IsCalm c
     idle = calm c v r.can.idle
+
     first : (w : Worker) × At c.workers 0 w
     first = at_exists c.workers 0 v.manned
+
     as_many : length workers ≡ length c.workers
     as_many = length-map c.workers (cut_worker through)
+
     cut : CutRight c.log c.born c.query through (length c.workers) 0 c.workers
     cut = cuts_right c v through above r.can.reached idle.uncut
+
     -- workers
     back : (place t : ℕ) → IsGone c.log c.born c.query links place t → IsGone c.log c.born c.query c.links place t
     back place t (inl e) = inl e
     back place t (inr p) =
         let m = at_map_back unclaimed r.parts p.number p.link p.found in
         absurd (true≢false (sym p.past ∙ sym (ap (λ (l : Link). is_past place l.stage) m.2)))
+
     on : (place t : ℕ) → IsGone c.log c.born c.query c.links place t → IsGone c.log c.born c.query links place t
     on place t (inl e) = inl e
     on place t (inr p) = let e : None ≡ Some p.link = subst (λ ls. At ls p.number p.link) idle.no_links p.found in absurd cc
+
     each_worker : (n : ℕ) (w : Worker) → At workers n w → WorkerIs (record c { workers = workers; ddl = filter (λ (d : DdlNode). nat_lt through d.scn) c.ddl; quiesce = Flushing through; links = links }) n w
     each_worker n w h = worker_is (record c { workers = workers; ddl = filter (λ (d : DdlNode). nat_lt through d.scn) c.ddl; quiesce = Flushing through; links = links }) (length c.workers) n w as_many
-      (subst (λ x. WorkerAt (length c.workers) through c.frontier c.log c.born c.query links c.shards n x) was.2 (cut_is was.0 was.1))
+        (subst (λ x. WorkerAt (length c.workers) through c.frontier c.log c.born c.query links c.shards n x) was.2 (cut_is was.0 was.1))
       where
         was : (x : Worker) × At c.workers n x × (cut_worker through x ≡ w)
         was = at_map_back (cut_worker through) c.workers n w h
+
         cut_is : (x : Worker) → At c.workers n x → WorkerAt (length c.workers) through c.frontier c.log c.born c.query links c.shards n (cut_worker through x)
         cut_is x at =
             let is = v.workers n x at in
@@ -116,47 +125,58 @@ begin_flush_keeps through units facts c new r v = subst Invariant (sym r.effect)
               applied = is.applied;
               area = area_gone c.log c.born c.query c.query c.links links n (take x.mined (share_of c n)) x.area (back n) (on n) is.area;
               partition =
-                ap (filter (λ (m : Node). nat_lt through m.scn)) (subst (λ low. PartitionIs c.log c.born low (take x.mined (share_of c n)) x.ends) idle.uncut is.partition)
-                ∙ filter_stronger (λ (m : Node). nat_lt c.query m.scn) (λ (m : Node). nat_lt through m.scn) (nodes_of c.log c.born (take x.mined (share_of c n)))
+                  ap (filter (λ (m : Node). nat_lt through m.scn)) (subst (λ low. PartitionIs c.log c.born low (take x.mined (share_of c n)) x.ends) idle.uncut is.partition)
+                  ∙ filter_stronger (λ (m : Node). nat_lt c.query m.scn) (λ (m : Node). nat_lt through m.scn) (nodes_of c.log c.born (take x.mined (share_of c n)))
                   (λ m k. above_more c.query through m.scn above k);
             }
+
     -- changes of definitions
     mined : List LogEntry
     mined = mined_from (length c.workers) 0 c.log (map (λ (w : Worker). w.mined) c.workers)
+
     ddl_same : IsPermutation (filter (λ (d : DdlNode). nat_lt c.query d.scn) (ddl_in mined)) c.ddl
     ddl_same = subst (λ low. IsPermutation (filter (λ (d : DdlNode). nat_lt low d.scn) (ddl_in mined)) c.ddl) idle.uncut v.ddl.same
+
     ddl_is : DdlIs through (mined_from (length workers) 0 c.log (map (λ (w : Worker). w.mined) workers)) (filter (λ (d : DdlNode). nat_lt through d.scn) c.ddl)
     ddl_is = subst (λ n. DdlIs through (mined_from n 0 c.log (map (λ (w : Worker). w.mined) workers)) (filter (λ (d : DdlNode). nat_lt through d.scn) c.ddl)) (sym as_many)
-      (subst (λ ns. DdlIs through (mined_from (length c.workers) 0 c.log ns) (filter (λ (d : DdlNode). nat_lt through d.scn) c.ddl)) (sym (same_mined through c.workers)) (record {
-        same = subst (λ ds. IsPermutation ds (filter (λ (d : DdlNode). nat_lt through d.scn) c.ddl))
-          (filter_stronger (λ (d : DdlNode). nat_lt c.query d.scn) (λ (d : DdlNode). nat_lt through d.scn) (ddl_in mined) (λ d k. above_more c.query through d.scn above k))
-          (filter_permuted (λ (d : DdlNode). nat_lt through d.scn) (filter (λ (d : DdlNode). nat_lt c.query d.scn) (ddl_in mined)) c.ddl ddl_same);
-        order = kept_order (λ (d : DdlNode). nat_lt through d.scn) c.ddl v.ddl.order;
-      }))
+        (subst (λ ns. DdlIs through (mined_from (length c.workers) 0 c.log ns) (filter (λ (d : DdlNode). nat_lt through d.scn) c.ddl)) (sym (same_mined through c.workers)) (record {
+          same = subst (λ ds. IsPermutation ds (filter (λ (d : DdlNode). nat_lt through d.scn) c.ddl))
+              (filter_stronger (λ (d : DdlNode). nat_lt c.query d.scn) (λ (d : DdlNode). nat_lt through d.scn) (ddl_in mined) (λ d k. above_more c.query through d.scn above k))
+              (filter_permuted (λ (d : DdlNode). nat_lt through d.scn) (filter (λ (d : DdlNode). nat_lt c.query d.scn) (ddl_in mined)) c.ddl ddl_same);
+          order = kept_order (λ (d : DdlNode). nat_lt through d.scn) c.ddl v.ddl.order;
+        }))
+
     -- items
     entries : List LogEntry
     entries = shares (length c.workers) c.log
+
     flat : List Item
     flat = flat_map (λ (part : List Item). part) r.parts
+
     ddl : List DdlNode
     ddl = filter (λ (d : DdlNode). nat_le d.scn through) c.ddl
+
     nodes_same : IsPermutation (map node_item (flush_nodes c.log c.born c.query through entries)) (map node_item r.nodes)
     nodes_same = IsPermutation-map node_item (flush_nodes c.log c.born c.query through entries) r.nodes
-      (subst (λ ns. IsPermutation ns r.nodes) (sym (nodes_cut c.log c.born c.query through (length c.workers) 0 c.workers cut)) r.same)
+        (subst (λ ns. IsPermutation ns r.nodes) (sym (nodes_cut c.log c.born c.query through (length c.workers) 0 c.workers cut)) r.same)
+
     ddls_same : IsPermutation (map ddl_item (flush_ddl c.query through entries)) (map ddl_item ddl)
     ddls_same = IsPermutation-map ddl_item (flush_ddl c.query through entries) ddl
-      (subst (λ ds. IsPermutation ds ddl) (sym (ddl_cut c.log c.born c.query through (length c.workers) 0 c.workers cut))
+        (subst (λ ds. IsPermutation ds ddl) (sym (ddl_cut c.log c.born c.query through (length c.workers) 0 c.workers cut))
         (filter_permuted (λ (d : DdlNode). nat_le d.scn through) (filter (λ (d : DdlNode). nat_lt c.query d.scn) (ddl_in mined)) c.ddl ddl_same))
+
     once : IsPermutation (flush_items c.log c.born c.query through entries) flat
     once = subst (λ items. IsPermutation (flush_items c.log c.born c.query through entries) items) (sym r.chopped.whole)
-      (IsPermutation-trans (flush_items c.log c.born c.query through entries) (map node_item r.nodes ++ map ddl_item (flush_ddl c.query through entries)) (map node_item r.nodes ++ map ddl_item ddl)
+        (IsPermutation-trans (flush_items c.log c.born c.query through entries) (map node_item r.nodes ++ map ddl_item (flush_ddl c.query through entries)) (map node_item r.nodes ++ map ddl_item ddl)
         (IsPermutation-append_left (map ddl_item (flush_ddl c.query through entries)) (map node_item (flush_nodes c.log c.born c.query through entries)) (map node_item r.nodes) nodes_same)
         (IsPermutation-append_right (map node_item r.nodes) (map ddl_item (flush_ddl c.query through entries)) (map ddl_item ddl) ddls_same))
+
     few : (t : ℕ) → count_by (is_item_of t) flat ≤ 1
     few t =
         let same = sum_by-IsPermutation (λ i. cond (is_item_of t i) 1 0) (flush_items c.log c.born c.query through entries) flat once in
         let one = one_item c.log c.frontier c.born c.query through (length c.workers) t (facts c.log c.frontier v.log) v.manned in
         omega arith
+
     items_are : ItemsAre c.log c.born c.query through entries r.parts
     items_are = record { once = once; together = together }
       where

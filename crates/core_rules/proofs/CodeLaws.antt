@@ -1,13 +1,12 @@
 -- What the program asks of a state before it applies and mines.
-use Rattle.std.proofs.Common.{◌≡◌, ℕ, ◌+◌, ◌<◌, ◌≤◌, Bool, true, false, List, length, take, Option, Some, None, ◌⊎◌, inl, inr, refl, sym, ap, ◌∙◌, subst, arith}
+use Rattle.std.proofs.Common.{◌≡◌, ℕ, ◌<◌, ◌≤◌, true, List, length, take, Some, ◌⊎◌, inl, inr, sym, ap, ◌∙◌, subst, arith}
 use Rattle.std.specs.List.{Contains}
 use Rattle.std.proofs.lemmas.Bool.{cases_lt}
 use Rattle.adg_base.specs.Shard.{shard_of_vector}
 use Rattle.adg_base.specs.declared.log.LogEntry.{LogEntry}
 use Rattle.core_rules.specs.Share.{is_shared_by}
-use Rattle.core_rules.specs.State.{CoreState, Worker, Shard, At, share_of, limit}
+use Rattle.core_rules.specs.State.{At, share_of, limit}
 use Rattle.core_rules.specs.LogFacts.{LogFacts, LogHasFacts}
-use Rattle.core_rules.specs.Invariant.{Invariant}
 use Rattle.core_rules.specs.Laws.{CutIsApplied, NextClosesShard, NextMinedIsOpen}
 use Rattle.core_rules.proofs.Lists.{at_exists, at_contains, contains_at, at_take, at_take_back, filter_order}
 use Rattle.core_rules.proofs.Shares.{share_with, share_own, share_contains}
@@ -37,10 +36,13 @@ next_closes_shard facts c worker w e x n s v h k own at there same less = by_pla
   where
     log : LogFacts c.log c.frontier
     log = facts c.log c.frontier v.log
+
     shared : is_shared_by (length c.workers) worker (shard_of_vector x.vector) ≡ true
     shared = subst (λ o. is_shared_by (length c.workers) worker o ≡ true) (own ∙ sym same) (share_own (length c.workers) worker c.log e (at_contains (share_of c worker) w.applied e k))
+
     at_x : (i : ℕ) × At (share_of c worker) i x
     at_x = contains_at (share_of c worker) x (share_contains (length c.workers) worker c.log x there shared)
+
     not_later : w.applied ≤ at_x.0 → x.pos < e.pos → ⊥
     not_later l m = by_order (cases_lt w.applied at_x.0)
       where
@@ -58,6 +60,7 @@ next_closes_shard facts c worker w e x n s v h k own at there same less = by_pla
             let same_entry : x ≡ e = cc in
             let poses : x.pos ≡ e.pos = ap (λ (y : LogEntry). y.pos) same_entry in
             omega arith
+
     by_place : (at_x.0 < w.applied) ⊎ (w.applied ≤ at_x.0) → x.pos < s.applied
     by_place (inr l) = absurd (not_later l less)
     by_place (inl l) = (v.workers worker w h).applied x (at_contains (take w.applied (share_of c worker)) at_x.0 x (at_take (share_of c worker) w.applied at_x.0 x l at_x.1)) n s same at

@@ -1,16 +1,15 @@
 -- What an event of one worker has to show so that the invariant is kept.
-use Rattle.std.proofs.Common.{◌≡◌, ℕ, ◌+◌, ◌<◌, ◌≤◌, max, Bool, true, false, List, [], ◌∷◌, ◌++◌, map, length, take, Option, Some, None, ◌⊎◌, inl, inr, refl, sym, ap, ◌∙◌, subst, arith, length-set}
+use Rattle.std.proofs.Common.{◌≡◌, ℕ, ◌+◌, ◌<◌, ◌≤◌, List, map, length, take, ◌⊎◌, inl, inr, sym, subst, arith, length-set}
 use Rattle.std.specs.Prelude.{slice_set}
-use Rattle.std.specs.List.{Contains}
-use Rattle.adg_base.specs.Shard.{shard_of_vector, shard_of_unit}
+use Rattle.adg_base.specs.Shard.{shard_of_unit}
 use Rattle.adg_base.specs.declared.log.LogEntry.{LogEntry}
 use Rattle.adg_base.specs.declared.node.DdlNode.{DdlNode}
 use Rattle.core_rules.specs.Share.{share, shares}
-use Rattle.core_rules.specs.State.{CoreState, Worker, Shard, Link, ColumnUnit, At, share_of, limit}
+use Rattle.core_rules.specs.State.{CoreState, Worker, Shard, Link, At, share_of, limit}
 use Rattle.core_rules.specs.Parts.{ShardsAre, CountsAre, ProgressIs, AppliedAre, AreaIs, PartitionIs, DdlIs, mined_from, ItemsAre, items_of, ClaimsAre, stages_of, AllCollected}
 use Rattle.core_rules.specs.UnitParts.{UnitIs}
-use Rattle.core_rules.specs.Invariant.{Invariant, WorkerIs, FlushIs}
-use Rattle.core_rules.proofs.Lists.{at_set_cases, at_same, at_within}
+use Rattle.core_rules.specs.Invariant.{Invariant, WorkerIs}
+use Rattle.core_rules.proofs.Lists.{at_set_cases}
 
 -- what the invariant says of a worker, with all that it reads
 pub record WorkerAt (workers limit frontier : ℕ) (log : List LogEntry) (born query : ℕ) (links : List Link) (shards : List Shard) (worker : ℕ) (w : Worker) : Type 0 where
@@ -78,8 +77,10 @@ crew_keeps c worker x shards ddl v s more is d = record {
   where
     same : length (slice_set c.workers worker x) ≡ length c.workers
     same = length-set c.workers worker x
+
     moved : (n : ℕ) (w : Worker) → WorkerIs c n w → IsIn c (length c.workers) shards n w
     moved n w h = record { counts = h.counts; progress = h.progress; applied = applied_more (take w.applied (share_of c n)) c.shards shards more h.applied; area = h.area; partition = h.partition }
+
     each_worker : (n : ℕ) (w : Worker) → At (slice_set c.workers worker x) n w → WorkerIs (with_crew c worker x shards ddl) n w
     each_worker n w h = worker_is (with_crew c worker x shards ddl) (length c.workers) n w same (either (at_set_cases c.workers worker n w x h))
       where

@@ -1,19 +1,18 @@
 -- A begun flush is ended by the coordinator alone, in so many events.
-use Rattle.std.proofs.Common.{◌≡◌, ℕ, zero, suc, ◌+◌, ◌*◌, ◌<◌, ◌≤◌, Bool, true, false, cond, List, [], ◌∷◌, map, length, Option, Some, None, ◌⊎◌, inl, inr, refl, sym, ap, ◌∙◌, subst, arith, true≢false, length-set, suc-mul}
-use Rattle.std.specs.Prelude.{◌==◌, slice_set}
+use Rattle.std.proofs.Common.{◌≡◌, ℕ, zero, suc, ◌+◌, ◌*◌, ◌<◌, ◌≤◌, Bool, true, false, cond, List, [], ◌∷◌, length, Some, None, ◌⊎◌, inl, inr, refl, sym, ap, ◌∙◌, subst, arith, true≢false, length-set, suc-mul}
+use Rattle.std.specs.Prelude.{slice_set}
 use Rattle.std.specs.List.{Contains, AllByRecursion, list_any, count_by}
 use Rattle.std.proofs.lemmas.Bool.{cases_eq}
 use Rattle.core_rules.specs.declared.event.Event.{Event}
 use Rattle.core_rules.specs.declared.event.Event.TheVariants as event
 use Rattle.core_rules.specs.declared.event.CoreAnswer.{CoreAnswer}
 use Rattle.core_rules.specs.declared.event.CoreAnswer.TheVariants.{Moved}
-use Rattle.core_rules.specs.State.{CoreState, Worker, Quiesce, Idle, Flushing, Collected, Stage, Unclaimed, Claimed, Finished, Link, At, is_flushing, is_unclaimed, is_finished, is_held_by}
-use Rattle.core_rules.specs.Flush.{HasLink, IsFirstUnclaimed, CanClaim, Claims, CanCollect, Collects, CanTouch, Touches, CanFinish, Finishes, Publishes}
+use Rattle.core_rules.specs.State.{CoreState, Idle, Flushing, Collected, Stage, Unclaimed, Claimed, Finished, Link, At, is_flushing, is_unclaimed, is_finished, is_held_by}
+use Rattle.core_rules.specs.Flush.{HasLink, CanClaim, Claims, CanCollect, Collects, CanTouch, Touches, CanFinish, Finishes}
 use Rattle.core_rules.specs.Step.{Happens, Steps}
 use Rattle.core_rules.specs.LogFacts.{LogHasFacts}
 use Rattle.core_rules.specs.Invariant.{Invariant}
-use Rattle.core_rules.specs.Runs.{Takes, Leads}
-use Rattle.core_rules.specs.Laws.{GuardsAreExact, IsOfCoordinator, moving, EndsFlush, FlushEnds}
+use Rattle.core_rules.specs.Laws.{GuardsAreExact, IsOfCoordinator, EndsFlush, FlushEnds}
 use Rattle.core_rules.proofs.Lists.{at_within, at_same, at_set_same, at_set_cases, contains_at, each_at, each_contains, each_from, Has, contains, any_contains, any_none, any_false, is_true}
 use Rattle.core_rules.proofs.Once.{count_cons, count_none, count_some}
 use Rattle.core_rules.proofs.Keeps.{Keeps}
@@ -81,10 +80,10 @@ claimed_busy links left number link q found is = record {
   stage = refl;
   others = λ n l d h. others n l d (at_set_cases links number n l (record link { stage = Claimed 0 0 [] }) h);
   count =
-    let set = count_set links number link (Claimed 0 0 []) found in
-    let was : cond (is_unclaimed link.stage) 1 0 ≡ 1 = ap (λ s. cond {A = ℕ} (is_unclaimed s) 1 0) is in
-    let all : unclaimed_links links ≡ suc left = q.count in
-    omega arith;
+      let set = count_set links number link (Claimed 0 0 []) found in
+      let was : cond (is_unclaimed link.stage) 1 0 ≡ 1 = ap (λ s. cond {A = ℕ} (is_unclaimed s) 1 0) is in
+      let all : unclaimed_links links ≡ suc left = q.count in
+      omega arith;
 }
   where
     others : (n : ℕ) (l : Link) → (n ≡ number → ⊥) → ((n ≡ number) × (l ≡ record link { stage = Claimed 0 0 [] })) ⊎ ((n ≡ number → ⊥) × At links n l) → IsFree l
@@ -100,10 +99,10 @@ next_busy links left number cursor later link collected more b found is = record
   stage = refl;
   others = λ n l d h. others n l d (at_set_cases links number n l (record link { stage = Claimed 0 later more }) h);
   count =
-    let set = count_set links number link (Claimed 0 later more) found in
-    let was : cond (is_unclaimed link.stage) 1 0 ≡ 0 = ap (λ s. cond {A = ℕ} (is_unclaimed s) 1 0) is in
-    let all : unclaimed_links links ≡ left = b.count in
-    omega arith;
+      let set = count_set links number link (Claimed 0 later more) found in
+      let was : cond (is_unclaimed link.stage) 1 0 ≡ 0 = ap (λ s. cond {A = ℕ} (is_unclaimed s) 1 0) is in
+      let all : unclaimed_links links ≡ left = b.count in
+      omega arith;
 }
   where
     others : (n : ℕ) (l : Link) → (n ≡ number → ⊥) → ((n ≡ number) × (l ≡ record link { stage = Claimed 0 later more })) ⊎ ((n ≡ number → ⊥) × At links n l) → IsFree l
@@ -115,14 +114,15 @@ done_quiet : (links : List Link) (left number cursor : ℕ) (link : Link) (colle
 done_quiet links left number cursor link collected b found is = record {
   each = each_from IsFree (slice_set links number done) (λ l h. free l (contains_at (slice_set links number done) l h));
   count =
-    let set = count_set links number link Finished found in
-    let was : cond (is_unclaimed link.stage) 1 0 ≡ 0 = ap (λ s. cond {A = ℕ} (is_unclaimed s) 1 0) is in
-    let all : unclaimed_links links ≡ left = b.count in
-    omega arith;
+      let set = count_set links number link Finished found in
+      let was : cond (is_unclaimed link.stage) 1 0 ≡ 0 = ap (λ s. cond {A = ℕ} (is_unclaimed s) 1 0) is in
+      let all : unclaimed_links links ≡ left = b.count in
+      omega arith;
 }
   where
     done : Link
     done = record link { stage = Finished }
+
     free : (l : Link) → (n : ℕ) × At (slice_set links number done) n l → IsFree l
     free l at = by_case (at_set_cases links number at.0 l done at.1)
       where
@@ -140,6 +140,7 @@ the_link c number cursor left n l k xs b h = by_number (cases_eq n number)
   where
     held : is_held_by 0 l.stage ≡ true
     held = ap (is_held_by 0) h.stage
+
     by_number : (n ≡ number) ⊎ (n ≡ number → ⊥) → IsTheLink c.links number cursor n l k
     by_number (inr d) = absurd (free_not_held l 0 (b.others n l d h.found) held)
     by_number (inl e) =
@@ -186,6 +187,7 @@ publish_one workers through c v flushing many q = record {
         let some : 1 ≤ unclaimed_links c.links = count_some (λ (x : Link). is_unclaimed x.stage) c.links (any_contains (λ (x : Link). is_unclaimed x.stage) c.links l h k) in
         let none : unclaimed_links c.links ≡ 0 = q.count in
         absurd (omega arith)
+
     done : AllByRecursion (λ (l : Link). is_finished l.stage ≡ true) c.links
     done = each_from (λ (l : Link). is_finished l.stage ≡ true) c.links (λ l h. finished l h (each_contains IsFree c.links l q.each h))
 
@@ -204,6 +206,7 @@ claim_one facts keep exact workers through left count later c v flushing many q 
         not_here : list_any (λ (l : Link). is_unclaimed l.stage) c.links ≡ false → (l : Link) → Has c.links l → (is_unclaimed l.stage ≡ true) ⊎ (is_unclaimed l.stage ≡ false) → is_unclaimed l.stage ≡ false
         not_here e l h (inr k) = k
         not_here e l h (inl k) = absurd (any_false (λ (x : Link). is_unclaimed x.stage) c.links l e (contains c.links l h) k)
+
         some : (b : Bool) → list_any (λ (l : Link). is_unclaimed l.stage) c.links ≡ b → b ≡ true
         some true e = refl
         some false e =
@@ -211,12 +214,13 @@ claim_one facts keep exact workers through left count later c v flushing many q 
             let none : unclaimed_links c.links ≡ 0 = count_none (λ (l : Link). is_unclaimed l.stage) c.links (λ l h. by_false l h (is_true (is_unclaimed l.stage))) in
             let all : unclaimed_links c.links ≡ suc left = q.count in
             absurd (omega arith)
+
     by_outcome : (answer : CoreAnswer) × (new : CoreState) × Happens c (event.Claim 0) answer new → EndsFlush c through (count + 1)
     by_outcome o = one_before c o.1 (event.Claim 0) through count refl (inr (refl, o.2.1)) (go o.1 o.2.1)
       where
         go : (new : CoreState) → Claims c 0 new → EndsFlush new through count
         go new r = later r.number new (keep.claim 0 facts c new r v) (ap (λ (d : CoreState). d.quiesce) r.effect ∙ flushing) (ap (λ (d : CoreState). length d.workers) r.effect ∙ many)
-          (subst (λ ls. AreBusy ls r.number 0 left) (sym (ap (λ (d : CoreState). d.links) r.effect)) (claimed_busy c.links left r.number r.link q r.first.found r.first.is))
+            (subst (λ ls. AreBusy ls r.number 0 left) (sym (ap (λ (d : CoreState). d.links) r.effect)) (claimed_busy c.links left r.number r.link q r.first.found r.first.is))
 
 collect_one : LogHasFacts → CoordinatorKeeps → GuardsAreExact → (workers through number cursor left count : ℕ) → cursor < workers
     → FromBusy workers through number (cursor + 1) left count → FromBusy workers through number cursor left (count + 1)
@@ -224,22 +228,24 @@ collect_one facts keep exact workers through number cursor left count l later c 
   where
     can : CanCollect c 0
     can = record { number = number; link = b.link; cursor = cursor; collected = b.collected; has = record { known = omega arith; found = b.found; stage = b.stage }; area = omega arith }
+
     by_outcome : (answer : CoreAnswer) × (new : CoreState) × Happens c (event.Collect 0) answer new → EndsFlush c through (count + 1)
     by_outcome o = one_before c o.1 (event.Collect 0) through count refl (inr (refl, o.2.1)) (go o.1 o.2.1)
       where
         go : (new : CoreState) → Collects c 0 new → EndsFlush new through count
         go new r = later new (keep.collect 0 facts c new r v) (ap (λ (d : CoreState). d.quiesce) r.effect ∙ flushing)
-          (ap (λ (d : CoreState). length d.workers) r.effect ∙ length-set c.workers r.cursor (record r.was { area = r.area }) ∙ many)
-          (subst (λ ls. AreBusy ls number (cursor + 1) left) (sym (ap (λ (d : CoreState). d.links) r.effect)) busy)
+            (ap (λ (d : CoreState). length d.workers) r.effect ∙ length-set c.workers r.cursor (record r.was { area = r.area }) ∙ many)
+            (subst (λ ls. AreBusy ls number (cursor + 1) left) (sym (ap (λ (d : CoreState). d.links) r.effect)) busy)
           where
             it : IsTheLink c.links number cursor r.number r.link r.cursor
             it = the_link c number cursor left r.number r.link r.cursor r.collected b r.has
+
             busy : AreBusy (slice_set c.links r.number (record r.link { stage = Claimed 0 (r.cursor + 1) r.more })) number (cursor + 1) left
             busy = subst (λ n. AreBusy (slice_set c.links n (record r.link { stage = Claimed 0 (r.cursor + 1) r.more })) number (cursor + 1) left) (sym it.number_is)
-              (subst (λ k. AreBusy (slice_set c.links number (record r.link { stage = Claimed 0 (k + 1) r.more })) number (cursor + 1) left) (sym it.cursor_is)
+                (subst (λ k. AreBusy (slice_set c.links number (record r.link { stage = Claimed 0 (k + 1) r.more })) number (cursor + 1) left) (sym it.cursor_is)
                 (next_busy c.links left number cursor (cursor + 1) r.link r.collected r.more b
-                  (subst (λ n. At c.links n r.link) it.number_is r.has.found)
-                  (subst (λ k. r.link.stage ≡ Claimed 0 k r.collected) it.cursor_is r.has.stage)))
+                (subst (λ n. At c.links n r.link) it.number_is r.has.found)
+                (subst (λ k. r.link.stage ≡ Claimed 0 k r.collected) it.cursor_is r.has.stage)))
 
 touch_one : LogHasFacts → CoordinatorKeeps → GuardsAreExact → (workers through number cursor left count : ℕ) → workers ≤ cursor → cursor < workers + 32
     → FromBusy workers through number (cursor + 1) left count → FromBusy workers through number cursor left (count + 1)
@@ -247,21 +253,23 @@ touch_one facts keep exact workers through number cursor left count m l later c 
   where
     can : CanTouch c 0
     can = record { number = number; link = b.link; cursor = cursor; collected = b.collected; has = record { known = omega arith; found = b.found; stage = b.stage }; from = omega arith; below = omega arith }
+
     by_outcome : (answer : CoreAnswer) × (new : CoreState) × Happens c (event.Touch 0) answer new → EndsFlush c through (count + 1)
     by_outcome o = one_before c o.1 (event.Touch 0) through count refl (inr (refl, o.2.1)) (go o.1 o.2.1)
       where
         go : (new : CoreState) → Touches c 0 new → EndsFlush new through count
         go new r = later new (keep.touch 0 facts c new r v) (ap (λ (d : CoreState). d.quiesce) r.effect ∙ flushing) (ap (λ (d : CoreState). length d.workers) r.effect ∙ many)
-          (subst (λ ls. AreBusy ls number (cursor + 1) left) (sym (ap (λ (d : CoreState). d.links) r.effect)) busy)
+            (subst (λ ls. AreBusy ls number (cursor + 1) left) (sym (ap (λ (d : CoreState). d.links) r.effect)) busy)
           where
             it : IsTheLink c.links number cursor r.number r.link r.cursor
             it = the_link c number cursor left r.number r.link r.cursor r.collected b r.has
+
             busy : AreBusy (slice_set c.links r.number (record r.link { stage = Claimed 0 (r.cursor + 1) r.collected })) number (cursor + 1) left
             busy = subst (λ n. AreBusy (slice_set c.links n (record r.link { stage = Claimed 0 (r.cursor + 1) r.collected })) number (cursor + 1) left) (sym it.number_is)
-              (subst (λ k. AreBusy (slice_set c.links number (record r.link { stage = Claimed 0 (k + 1) r.collected })) number (cursor + 1) left) (sym it.cursor_is)
+                (subst (λ k. AreBusy (slice_set c.links number (record r.link { stage = Claimed 0 (k + 1) r.collected })) number (cursor + 1) left) (sym it.cursor_is)
                 (next_busy c.links left number cursor (cursor + 1) r.link r.collected r.collected b
-                  (subst (λ n. At c.links n r.link) it.number_is r.has.found)
-                  (subst (λ k. r.link.stage ≡ Claimed 0 k r.collected) it.cursor_is r.has.stage)))
+                (subst (λ n. At c.links n r.link) it.number_is r.has.found)
+                (subst (λ k. r.link.stage ≡ Claimed 0 k r.collected) it.cursor_is r.has.stage)))
 
 done_one : LogHasFacts → CoordinatorKeeps → GuardsAreExact → (workers through number left count : ℕ)
     → FromQuiet workers through left count → FromBusy workers through number (workers + 32) left (count + 1)
@@ -269,18 +277,20 @@ done_one facts keep exact workers through number left count later c v flushing m
   where
     can : CanFinish c 0
     can = record { number = number; link = b.link; cursor = workers + 32; collected = b.collected; has = record { known = omega arith; found = b.found; stage = b.stage }; end = omega arith }
+
     by_outcome : (answer : CoreAnswer) × (new : CoreState) × Happens c (event.Done 0) answer new → EndsFlush c through (count + 1)
     by_outcome o = one_before c o.1 (event.Done 0) through count refl (inr (refl, o.2.1)) (go o.1 o.2.1)
       where
         go : (new : CoreState) → Finishes c 0 new → EndsFlush new through count
         go new r = later new (keep.finish 0 facts c new r v) (ap (λ (d : CoreState). d.quiesce) r.effect ∙ flushing) (ap (λ (d : CoreState). length d.workers) r.effect ∙ many)
-          (subst (λ ls. AreQuiet ls left) (sym (ap (λ (d : CoreState). d.links) r.effect)) quiet)
+            (subst (λ ls. AreQuiet ls left) (sym (ap (λ (d : CoreState). d.links) r.effect)) quiet)
           where
             it : IsTheLink c.links number (workers + 32) r.number r.link r.cursor
             it = the_link c number (workers + 32) left r.number r.link r.cursor r.collected b r.has
+
             quiet : AreQuiet (slice_set c.links r.number (record r.link { stage = Finished })) left
             quiet = subst (λ n. AreQuiet (slice_set c.links n (record r.link { stage = Finished })) left) (sym it.number_is)
-              (done_quiet c.links left number (workers + 32) r.link r.collected b
+                (done_quiet c.links left number (workers + 32) r.link r.collected b
                 (subst (λ n. At c.links n r.link) it.number_is r.has.found)
                 (subst (λ k. r.link.stage ≡ Claimed 0 k r.collected) it.cursor_is r.has.stage))
 
@@ -296,7 +306,7 @@ collect_all facts keep exact workers through number left count (suc k) cursor e 
     let next : cursor + 1 + k ≡ workers = omega arith in
     let more : count + k + 1 ≡ count + suc k = omega arith in
     subst (EndsFlush c through) more
-      (collect_one facts keep exact workers through number cursor left (count + k) below (collect_all facts keep exact workers through number left count k (cursor + 1) next later) c v flushing many b)
+    (collect_one facts keep exact workers through number cursor left (count + k) below (collect_all facts keep exact workers through number left count k (cursor + 1) next later) c v flushing many b)
 
 touch_all : LogHasFacts → CoordinatorKeeps → GuardsAreExact → (workers through number left count k cursor : ℕ) → workers ≤ cursor → cursor + k ≡ workers + 32
     → FromBusy workers through number (workers + 32) left count → FromBusy workers through number cursor left (count + k)
@@ -310,7 +320,7 @@ touch_all facts keep exact workers through number left count (suc k) cursor m e 
     let next : cursor + 1 + k ≡ workers + 32 = omega arith in
     let more : count + k + 1 ≡ count + suc k = omega arith in
     subst (EndsFlush c through) more
-      (touch_one facts keep exact workers through number cursor left (count + k) m below (touch_all facts keep exact workers through number left count k (cursor + 1) from next later) c v flushing many b)
+    (touch_one facts keep exact workers through number cursor left (count + k) m below (touch_all facts keep exact workers through number left count k (cursor + 1) from next later) c v flushing many b)
 
 -- one worklink after another
 all_ended : LogHasFacts → CoordinatorKeeps → GuardsAreExact → (workers through left : ℕ) → FromQuiet workers through left (left * (workers + 34) + 1)
@@ -319,14 +329,15 @@ all_ended facts keep exact workers through zero c v flushing many q =
     subst (EndsFlush c through) e (publish_one workers through c v flushing many q)
 all_ended facts keep exact workers through (suc left) c v flushing many q =
     subst (EndsFlush c through) count
-      (claim_one facts keep exact workers through left (rest + 1 + 32 + workers)
-        (λ number. collect_all facts keep exact workers through number left (rest + 1 + 32) workers 0 (omega arith)
-          (touch_all facts keep exact workers through number left (rest + 1) 32 workers (omega arith) refl
-            (done_one facts keep exact workers through number left rest (all_ended facts keep exact workers through left))))
-        c v flushing many q)
+    (claim_one facts keep exact workers through left (rest + 1 + 32 + workers)
+    (λ number. collect_all facts keep exact workers through number left (rest + 1 + 32) workers 0 (omega arith)
+    (touch_all facts keep exact workers through number left (rest + 1) 32 workers (omega arith) refl
+    (done_one facts keep exact workers through number left rest (all_ended facts keep exact workers through left))))
+    c v flushing many q)
   where
     rest : ℕ
     rest = left * (workers + 34) + 1
+
     count : left * (workers + 34) + 1 + 1 + 32 + workers + 1 ≡ suc left * (workers + 34) + 1
     count = let e : suc left * (workers + 34) ≡ left * (workers + 34) + (workers + 34) = suc-mul left (workers + 34) in omega arith
 

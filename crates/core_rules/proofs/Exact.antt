@@ -1,12 +1,12 @@
 -- Every guard is exact.
 use Rattle.core_rules.specs.declared.event.Event.TheVariants as event
-use Rattle.core_rules.specs.declared.event.CoreAnswer.TheVariants.{NotReady, Moved}
+use Rattle.core_rules.specs.declared.event.CoreAnswer.TheVariants.{Moved}
 use Rattle.core_rules.specs.State.{CoreState}
 use Rattle.core_rules.specs.Restarts.{restarted}
 use Rattle.core_rules.specs.Laws.{IsExact, GuardsAreExact}
 use Rattle.core_rules.proofs.ExactEvents.{apply_exact, mine_exact, raise_exact, begin_flush_exact, claim_exact, collect_exact, touch_exact, finish_exact, publish_exact}
 use Rattle.core_rules.proofs.ExactSessions.{not_moved, populate_exact, register_exact, release_exact, read_exact, install_exact, scan_exact, gather_exact, scan_end_exact}
-use Rattle.std.proofs.Common.{◌≡◌, refl}
+use Rattle.std.proofs.Common.{refl}
 
 restart_exact : (c : CoreState) → IsExact c event.Restart
 restart_exact c = record {

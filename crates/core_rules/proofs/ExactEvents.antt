@@ -1,11 +1,8 @@
 -- Apply, Mine, Raise and the events of a flush have an outcome exactly where their guards hold.
-use Rattle.std.proofs.Common.{◌≡◌, ℕ, ◌+◌, ◌<◌, ◌≤◌, List, length, Option, Some, None, refl, sym, ap, subst, arith}
+use Rattle.std.proofs.Common.{◌≡◌, ℕ, ◌+◌, ◌<◌, length, refl, arith}
 use Rattle.core_rules.specs.declared.event.Event.TheVariants as event
-use Rattle.core_rules.specs.declared.event.CoreAnswer.{CoreAnswer}
 use Rattle.core_rules.specs.declared.event.CoreAnswer.TheVariants.{NotReady, Moved}
-use Rattle.core_rules.specs.State.{CoreState, Worker, At, share_of}
-use Rattle.core_rules.specs.Applying.{CanApply, CanMine, CanRaise}
-use Rattle.core_rules.specs.Flush.{CanCollect, CanTouch, CanFinish, CanPublish}
+use Rattle.core_rules.specs.State.{CoreState, share_of}
 use Rattle.core_rules.specs.Invariant.{Invariant}
 use Rattle.core_rules.specs.Laws.{IsExact}
 use Rattle.core_rules.proofs.Lists.{at_within}

@@ -1,23 +1,20 @@
 -- Where the events of a flush can happen there is a state that they make.
-use Rattle.std.proofs.Common.{◌≡◌, ℕ, zero, suc, ◌+◌, ◌-◌, ◌*◌, ◌<◌, ◌≤◌, Bool, true, false, cond, not, ◌&&◌, ◌||◌, List, [], ◌∷◌, ◌++◌, map, filter, length, take, drop, get_or, Option, Some, None, ◌⊎◌, inl, inr, refl, sym, ap, ap₂, ◌∙◌, subst, arith, true≢false, IsPermutation}
-use Rattle.std.specs.Prelude.{◌==◌, nat_lt, nat_le, slice_set}
+use Rattle.std.proofs.Common.{◌≡◌, ℕ, zero, suc, ◌<◌, ◌≤◌, Bool, true, false, cond, not, ◌||◌, List, [], ◌∷◌, ◌++◌, map, filter, length, take, drop, get_or, Some, ◌⊎◌, inl, inr, refl, sym, ap, ◌∙◌, subst, arith, true≢false, IsPermutation}
+use Rattle.std.specs.Prelude.{nat_le}
 use Rattle.std.specs.List.{Contains, AllByRecursion, list_any, flat_map}
 use Rattle.std.specs.List.Sorted.{IsNonDecreasingBy}
-use Rattle.std.proofs.lemmas.Bool.{eqb-true, eq-eqb, eqb-false, ltb-true, lt-ltb, leb-true, le-leb, leb-false, and_parts, and_from, cases_eq}
+use Rattle.std.proofs.lemmas.Bool.{leb-true, leb-false}
 use Rattle.std.proofs.lemmas.List.{take-append-drop, length-take, length-drop}
 use Rattle.std.proofs.lemmas.List.Sorted.{IsPermutation-refl, IsPermutation-cons, IsPermutation-trans, IsPermutation-middle}
-use Rattle.adg_base.specs.Address.{Place, same_place}
-use Rattle.adg_base.specs.Area.{Held, HoldsPlace, HoldsBegin}
-use Rattle.adg_base.specs.Shard.{shard_of_unit}
+use Rattle.adg_base.specs.Address.{Place}
+use Rattle.adg_base.specs.Area.{Held, HoldsPlace}
 use Rattle.adg_base.specs.declared.node.Node.{Node}
 use Rattle.adg_base.specs.declared.node.DdlNode.{DdlNode}
 use Rattle.adg_base.specs.declared.node.Item.{Item}
 use Rattle.adg_model.specs.Mined.{node_item, ddl_item}
-use Rattle.core_rules.specs.Extents.{IsInExtent}
-use Rattle.core_rules.specs.State.{CoreState, Worker, Idle, Collected, Stage, Unclaimed, Claimed, Finished, Link, ColumnUnit, Units, At, is_unclaimed, has_txn, has_change, has_coarse, has_drop, HasCollected}
-use Rattle.core_rules.specs.Flush.{CanBeginFlush, BeginsFlush, nodes_upto, AreFull, AreChopped, CanClaim, Claims, IsFirstUnclaimed, CanCollect, Collects, AreaGives, Gains, CanTouch, Touches, Marks, IsMarked, IsTouched, CanFinish, Finishes, CanPublish, Publishes}
-use Rattle.core_rules.specs.Invariant.{Invariant}
-use Rattle.core_rules.proofs.Lists.{Has, has, contains, at_exists, has_filter, has_filter_back, has_map, has_map_back, has_append_left, has_append_right, has_append_cases, any_has, any_has_back, is_true, not_both}
+use Rattle.core_rules.specs.State.{CoreState, Worker, Collected, Stage, Unclaimed, Claimed, Finished, Link, At, is_unclaimed, has_txn, HasCollected}
+use Rattle.core_rules.specs.Flush.{CanBeginFlush, BeginsFlush, nodes_upto, AreFull, CanClaim, Claims, CanCollect, Collects, AreaGives, Gains}
+use Rattle.core_rules.proofs.Lists.{Has, has, contains, at_exists, has_filter, has_filter_back, has_map, has_map_back, has_append_left, has_append_right, has_append_cases}
 
 -- nodes put in the order of their positions
 abbrev pub placed : Node → List Node → List Node
@@ -115,18 +112,22 @@ chop_full (suc n) (i ∷ is) = by_rest (chop n (drop 64 (i ∷ is))) refl (chop_
         (omega arith, h)
 
 pub possible_begin_flush : (c : CoreState) (through : ℕ) → CanBeginFlush c through → (new : CoreState) × BeginsFlush c through new
-possible_begin_flush c through can = (_, record {
-  can = can;
-  nodes = by_place nodes;
-  order = rising (by_place nodes) (by_place_order nodes);
-  same = by_place_same nodes;
-  parts = chop (length items) items;
-  chopped = record { whole = chop_whole (length items) items (omega arith); full = chop_full (length items) items };
-  effect = refl;
-})
+possible_begin_flush c through can = (
+  _,
+  record {
+    can = can;
+    nodes = by_place nodes;
+    order = rising (by_place nodes) (by_place_order nodes);
+    same = by_place_same nodes;
+    parts = chop (length items) items;
+    chopped = record { whole = chop_whole (length items) items (omega arith); full = chop_full (length items) items };
+    effect = refl;
+  },
+)
   where
     nodes : List Node
     nodes = nodes_upto through c.workers
+
     items : List Item
     items = map node_item (by_place nodes) ++ map ddl_item (filter (λ (d : DdlNode). nat_le d.scn through) c.ddl)
 
@@ -156,13 +157,16 @@ unclaimed_stage (Claimed actor cursor collected) h = absurd (true≢false (sym h
 unclaimed_stage Finished h = absurd (true≢false (sym h))
 
 pub possible_claim : (c : CoreState) (actor : ℕ) → CanClaim c actor → (new : CoreState) × Claims c actor new
-possible_claim c actor can = (_, record {
-  can = can;
-  number = first.number;
-  link = first.element;
-  first = record { found = first.found; is = unclaimed_stage first.element.stage first.passes; first = first.first };
-  effect = refl;
-})
+possible_claim c actor can = (
+  _,
+  record {
+    can = can;
+    number = first.number;
+    link = first.element;
+    first = record { found = first.found; is = unclaimed_stage first.element.stage first.passes; first = first.first };
+    effect = refl;
+  },
+)
   where
     first : IsFirst (λ (l : Link). is_unclaimed l.stage) c.links
     first = first_of_any (λ (l : Link). is_unclaimed l.stage) c.links can.some
@@ -188,7 +192,8 @@ area_gives items area = record {
   where
     kept : (t : ℕ) (h : Held) → Contains area h → h.txn ≡ t → has_txn t items ≡ false → Contains (filter (λ (x : Held). not (has_txn x.txn items)) area) h
     kept t h w e k = contains (filter (λ (x : Held). not (has_txn x.txn items)) area) h
-      (has_filter (λ (x : Held). not (has_txn x.txn items)) area h (has area h w) (ap not (ap (λ n. has_txn n items) e ∙ k)))
+        (has_filter (λ (x : Held). not (has_txn x.txn items)) area h (has area h w) (ap not (ap (λ n. has_txn n items) e ∙ k)))
+
     only : (t : ℕ) (h : Held) → Contains (filter (λ (x : Held). not (has_txn x.txn items)) area) h → h.txn ≡ t → Contains area h × (has_txn t items ≡ false)
     only t h w e =
         let r = has_filter_back (λ (x : Held). not (has_txn x.txn items)) area h (has (filter (λ (x : Held). not (has_txn x.txn items)) area) h w) in
@@ -203,16 +208,18 @@ gains items area old = record {
   where
     as_collected : Held → Collected
     as_collected h = record { txn = h.txn; places = h.places }
+
     gained : (t : ℕ) (a : Place) → HoldsPlace area t a → has_txn t items ≡ true → HasCollected (old ++ given items area) t a
     gained t a h k = record {
       entry = record { txn = h.held.txn; places = h.held.places };
       within = contains (old ++ given items area) (record { txn = h.held.txn; places = h.held.places })
-        (has_append_right old (given items area) (record { txn = h.held.txn; places = h.held.places })
+          (has_append_right old (given items area) (record { txn = h.held.txn; places = h.held.places })
           (has_map (λ (x : Held). record { txn = x.txn; places = x.places }) (filter (λ (x : Held). has_txn x.txn items) area) h.held
-            (has_filter (λ (x : Held). has_txn x.txn items) area h.held (has area h.held h.within) (ap (λ n. has_txn n items) h.of ∙ k))));
+          (has_filter (λ (x : Held). has_txn x.txn items) area h.held (has area h.held h.within) (ap (λ n. has_txn n items) h.of ∙ k))));
       of = h.of;
       noted = h.noted;
     }
+
     only : (t : ℕ) (a : Place) → (h : HasCollected (old ++ given items area) t a) → Has old h.entry ⊎ Has (given items area) h.entry → HasCollected old t a ⊎ (HoldsPlace area t a × (has_txn t items ≡ true))
     only t a h (inl k) = inl (record { entry = h.entry; within = contains old h.entry k; of = h.of; noted = h.noted })
     only t a h (inr k) =
@@ -222,20 +229,23 @@ gains items area old = record {
         inr (record { held = m.0; within = contains area m.0 f.0; of = of; noted = subst (λ (x : Collected). Contains x.places a) (sym m.2) h.noted }, ap (λ n. has_txn n items) (sym of) ∙ f.1)
 
 pub possible_collect : (c : CoreState) (actor : ℕ) → CanCollect c actor → (new : CoreState) × Collects c actor new
-possible_collect c actor can = (_, record {
-  number = can.number;
-  link = can.link;
-  cursor = can.cursor;
-  collected = can.collected;
-  has = can.has;
-  was = was.0;
-  at = was.1;
-  area = kept_held can.link.items was.0.area;
-  gives = area_gives can.link.items was.0.area;
-  more = can.collected ++ given can.link.items was.0.area;
-  gains = gains can.link.items was.0.area can.collected;
-  effect = refl;
-})
+possible_collect c actor can = (
+  _,
+  record {
+    number = can.number;
+    link = can.link;
+    cursor = can.cursor;
+    collected = can.collected;
+    has = can.has;
+    was = was.0;
+    at = was.1;
+    area = kept_held can.link.items was.0.area;
+    gives = area_gives can.link.items was.0.area;
+    more = can.collected ++ given can.link.items was.0.area;
+    gains = gains can.link.items was.0.area can.collected;
+    effect = refl;
+  },
+)
   where
     was : (w : Worker) × At c.workers can.cursor w
     was = at_exists c.workers can.cursor can.area

@@ -1,6 +1,5 @@
 -- The events of populations and scans can happen exactly where their guards hold.
-use Rattle.std.proofs.Common.{◌≡◌, ℕ, ◌+◌, ◌*◌, ◌<◌, ◌≤◌, Bool, true, false, cond, List, ◌++◌, Option, Some, None, ◌⊎◌, inl, inr, refl, sym, ap, ◌∙◌, subst, arith}
-use Rattle.std.specs.Prelude.{◌==◌}
+use Rattle.std.proofs.Common.{◌≡◌, ℕ, ◌+◌, ◌<◌, Bool, true, false, cond, ◌++◌, Option, Some, None, inl, inr, refl, ap, ◌∙◌, arith}
 use Rattle.std.proofs.lemmas.Bool.{ne_eqb}
 use Rattle.adg_base.specs.declared.command.Select.{Select}
 use Rattle.adg_base.specs.declared.answer.Reply.{Reply}
@@ -11,10 +10,10 @@ use Rattle.core_rules.specs.declared.event.Event.{Event}
 use Rattle.core_rules.specs.declared.event.Event.TheVariants as event
 use Rattle.core_rules.specs.declared.event.CoreAnswer.{CoreAnswer}
 use Rattle.core_rules.specs.declared.event.CoreAnswer.TheVariants.{NotReady, Moved, Said}
-use Rattle.core_rules.specs.State.{CoreState, ColumnUnit, Population, Scan, Session, Free, Populating, Scanning, At, held_once_more, held_once_less}
-use Rattle.core_rules.specs.Populations.{CanPopulate, BeginsPopulation, RefusesPopulation, population_refusal, has_ticket, IsFresh, new_population, with_session, CanRegister, Registers, loading, with_unit, CanRelease, Releases, CanRead, Reads, next_block, CanInstall, Installs, units_installed, installed_then, has_more, session_then, answer_then}
-use Rattle.core_rules.specs.Scans.{CanScan, BeginsScan, RefusesScan, scan_refusal, new_scan, CanGather, Gathers, scan_then, CanEndScan, EndsScan, scan_reply}
-use Rattle.core_rules.specs.Step.{Guard, Happens, Says}
+use Rattle.core_rules.specs.State.{CoreState, Population, Session, Free, Populating, Scanning, At, held_once_more, held_once_less}
+use Rattle.core_rules.specs.Populations.{CanPopulate, population_refusal, has_ticket, IsFresh, new_population, with_session, loading, with_unit, next_block, units_installed, installed_then, has_more, session_then, answer_then}
+use Rattle.core_rules.specs.Scans.{CanScan, scan_refusal, new_scan, scan_then, scan_reply}
+use Rattle.core_rules.specs.Step.{Happens}
 use Rattle.core_rules.specs.Invariant.{Invariant}
 use Rattle.core_rules.specs.Laws.{IsExact}
 
@@ -49,23 +48,30 @@ populates c session obj i g = by_table (table_at c.log c.query obj) refl
   where
     refused : (said : Reply) → population_refusal c.query (table_at c.log c.query obj) ≡ Some said → Outcome c (event.PopBegin session obj)
     refused said h = (Said said, c, inr (record { reply = said; refused = record { can = g; refusal = h; same = refl }; says = refl }))
+
     by_flag : (table : Table) → table_at c.log c.query obj ≡ Some table → (b : Bool) → table.flag ≡ b → Outcome c (event.PopBegin session obj)
-    by_flag table h true f =
-        (Moved, record (with_session c g.place (Populating (new_population obj c.query c.ticket table))) { quiesce = held_once_more c.quiesce; ticket = c.ticket + 1 },
-            inl (refl, record {
-              can = g;
-              table = table;
-              defined = h;
-              in_memory = f;
-              ticket = c.ticket;
-              fresh = next_is_fresh c i;
-              next = c.ticket + 1;
-              above = omega arith;
-              forward = omega arith;
-              effect = refl;
-            }))
+    by_flag table h true f = (
+      Moved,
+      record (with_session c g.place (Populating (new_population obj c.query c.ticket table))) { quiesce = held_once_more c.quiesce; ticket = c.ticket + 1 },
+      inl (
+        refl,
+        record {
+          can = g;
+          table = table;
+          defined = h;
+          in_memory = f;
+          ticket = c.ticket;
+          fresh = next_is_fresh c i;
+          next = c.ticket + 1;
+          above = omega arith;
+          forward = omega arith;
+          effect = refl;
+        },
+      ),
+    )
     by_flag table h false f =
         refused (reply.NotInMemory c.query) (ap (population_refusal c.query) h ∙ ap (λ (b : Bool). cond b None (Some (reply.NotInMemory c.query))) f)
+
     by_table : (t : Option Table) → table_at c.log c.query obj ≡ t → Outcome c (event.PopBegin session obj)
     by_table None h = refused (reply.NoTable c.query) (ap (population_refusal c.query) h)
     by_table (Some table) h = by_flag table h table.flag refl
@@ -80,6 +86,7 @@ populate_exact c session obj i = record {
     guarded : (answer : CoreAnswer) (new : CoreState) → Happens c (event.PopBegin session obj) answer new → CanPopulate c session
     guarded answer new (inl h) = h.1.can
     guarded answer new (inr h) = h.refused.can
+
     ready : (new : CoreState) → Happens c (event.PopBegin session obj) NotReady new → ⊥
     ready new (inl h) = not_moved h.0
     ready new (inr h) = not_said h.reply h.says
@@ -87,25 +94,35 @@ populate_exact c session obj i = record {
 -- PopRegister, PopRelease and PopRead
 pub register_exact : (c : CoreState) (session : ℕ) → IsExact c (event.PopRegister session)
 register_exact c session = record {
-  possible = λ g. (Moved, record (with_session c g.place (Populating (record g.population { registered = g.population.registered + 1 }))) {
-    units = with_unit g.population.obj g.population.registered (Some (loading g.population)) c.units;
-  }, (refl, record { place = g.place; population = g.population; is = g.is; holds = g.holds; left = g.left; effect = refl }));
+  possible = λ g. (
+    Moved,
+    record (with_session c g.place (Populating (record g.population { registered = g.population.registered + 1 }))) {
+      units = with_unit g.population.obj g.population.registered (Some (loading g.population)) c.units;
+    },
+    (refl, record { place = g.place; population = g.population; is = g.is; holds = g.holds; left = g.left; effect = refl }),
+  );
   guarded = λ answer new h. record { place = h.1.place; population = h.1.population; is = h.1.is; holds = h.1.holds; left = h.1.left };
   ready = λ new h. not_moved h.0;
 }
 
 pub release_exact : (c : CoreState) (session : ℕ) → IsExact c (event.PopRelease session)
 release_exact c session = record {
-  possible = λ g. (Moved, record (with_session c g.place (Populating (record g.population { holds = false }))) { quiesce = held_once_less c.quiesce },
-      (refl, record { place = g.place; population = g.population; is = g.is; holds = g.holds; all = g.all; effect = refl }));
+  possible = λ g. (
+    Moved,
+    record (with_session c g.place (Populating (record g.population { holds = false }))) { quiesce = held_once_less c.quiesce },
+    (refl, record { place = g.place; population = g.population; is = g.is; holds = g.holds; all = g.all; effect = refl }),
+  );
   guarded = λ answer new h. record { place = h.1.place; population = h.1.population; is = h.1.is; holds = h.1.holds; all = h.1.all };
   ready = λ new h. not_moved h.0;
 }
 
 pub read_exact : (c : CoreState) (session : ℕ) → IsExact c (event.PopRead session)
 read_exact c session = record {
-  possible = λ g. (Moved, with_session c g.place (Populating (record g.population { blocks = g.population.blocks + 1; read = g.population.read ++ next_block c g.population })),
-      (refl, record { place = g.place; population = g.population; is = g.is; released = g.released; left = g.left; effect = refl }));
+  possible = λ g. (
+    Moved,
+    with_session c g.place (Populating (record g.population { blocks = g.population.blocks + 1; read = g.population.read ++ next_block c g.population })),
+    (refl, record { place = g.place; population = g.population; is = g.is; released = g.released; left = g.left; effect = refl }),
+  );
   guarded = λ answer new h. record { place = h.1.place; population = h.1.population; is = h.1.is; released = h.1.released; left = h.1.left };
   ready = λ new h. not_moved h.0;
 }
@@ -113,9 +130,11 @@ read_exact c session = record {
 -- PopEnd
 pub install_exact : (c : CoreState) (session : ℕ) → IsExact c (event.PopEnd session)
 install_exact c session = record {
-  possible = λ g. (answer_then g.population (installed_then g.population c.units),
-      record (with_session c g.place (session_then g.population (installed_then g.population c.units))) { units = units_installed g.population c.units },
-      record { place = g.place; population = g.population; is = g.is; released = g.released; whole = g.whole; says = refl; effect = refl });
+  possible = λ g. (
+    answer_then g.population (installed_then g.population c.units),
+    record (with_session c g.place (session_then g.population (installed_then g.population c.units))) { units = units_installed g.population c.units },
+    record { place = g.place; population = g.population; is = g.is; released = g.released; whole = g.whole; says = refl; effect = refl },
+  );
   guarded = λ answer new h. record { place = h.place; population = h.population; is = h.is; released = h.released; whole = h.whole };
   ready = λ new h. ready h.population (installed_then h.population c.units) h.says;
 }
@@ -133,17 +152,19 @@ scans c session select g = by_table (table_at c.log c.query select.obj) refl
   where
     refused : (said : Reply) → scan_refusal c.query select (table_at c.log c.query select.obj) ≡ Some said → Outcome c (event.ScanBegin session select)
     refused said h = (Said said, c, inr (record { reply = said; refused = record { can = g; refusal = h; same = refl }; says = refl }))
+
     by_tests : (table : Table) → table_at c.log c.query select.obj ≡ Some table → (x : Bool) → has_columns select table ≡ x → (y : Bool) → has_types select table ≡ y
         → Outcome c (event.ScanBegin session select)
     by_tests table h true e true f =
         (Moved, with_session c g.place (Scanning (new_scan select c.query table)), inl (refl, record { can = g; table = table; defined = h; columns = e; types = f; effect = refl }))
     by_tests table h true e false f =
         refused (reply.WrongType c.query) (ap (scan_refusal c.query select) h
-            ∙ ap (λ (b : Bool). cond b (cond (has_types select table) None (Some (reply.WrongType c.query))) (Some (reply.NoColumn c.query))) e
-            ∙ ap (λ (b : Bool). cond b None (Some (reply.WrongType c.query))) f)
+        ∙ ap (λ (b : Bool). cond b (cond (has_types select table) None (Some (reply.WrongType c.query))) (Some (reply.NoColumn c.query))) e
+        ∙ ap (λ (b : Bool). cond b None (Some (reply.WrongType c.query))) f)
     by_tests table h false e y f =
         refused (reply.NoColumn c.query) (ap (scan_refusal c.query select) h
-            ∙ ap (λ (b : Bool). cond b (cond (has_types select table) None (Some (reply.WrongType c.query))) (Some (reply.NoColumn c.query))) e)
+        ∙ ap (λ (b : Bool). cond b (cond (has_types select table) None (Some (reply.WrongType c.query))) (Some (reply.NoColumn c.query))) e)
+
     by_table : (t : Option Table) → table_at c.log c.query select.obj ≡ t → Outcome c (event.ScanBegin session select)
     by_table None h = refused (reply.NoTable c.query) (ap (scan_refusal c.query select) h)
     by_table (Some table) h = by_tests table h (has_columns select table) refl (has_types select table) refl
@@ -158,6 +179,7 @@ scan_exact c session select = record {
     guarded : (answer : CoreAnswer) (new : CoreState) → Happens c (event.ScanBegin session select) answer new → CanScan c session
     guarded answer new (inl h) = h.1.can
     guarded answer new (inr h) = h.refused.can
+
     ready : (new : CoreState) → Happens c (event.ScanBegin session select) NotReady new → ⊥
     ready new (inl h) = not_moved h.0
     ready new (inr h) = not_said h.reply h.says
@@ -172,11 +194,15 @@ gather_exact c session = record {
 
 pub scan_end_exact : (c : CoreState) (session : ℕ) → IsExact c (event.ScanEnd session)
 scan_end_exact c session = record {
-  possible = λ g. (Said (scan_reply g.scan), with_session c g.place Free, record {
-    reply = scan_reply g.scan;
-    refused = record { place = g.place; scan = g.scan; is = g.is; whole = g.whole; says = refl; effect = refl };
-    says = refl;
-  });
+  possible = λ g. (
+    Said (scan_reply g.scan),
+    with_session c g.place Free,
+    record {
+      reply = scan_reply g.scan;
+      refused = record { place = g.place; scan = g.scan; is = g.is; whole = g.whole; says = refl; effect = refl };
+      says = refl;
+    },
+  );
   guarded = λ answer new h. record { place = h.refused.place; scan = h.refused.scan; is = h.refused.is; whole = h.refused.whole };
   ready = λ new h. not_said h.reply h.says;
 }

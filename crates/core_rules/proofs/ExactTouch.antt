@@ -1,15 +1,14 @@
 -- Where Touch, Done and Publish can happen there is a state that they make.
-use Rattle.std.proofs.Common.{◌≡◌, ℕ, ◌+◌, ◌-◌, ◌*◌, ◌<◌, ◌≤◌, Bool, true, false, cond, ◌&&◌, ◌||◌, List, length, Option, Some, None, ◌⊎◌, inl, inr, refl, sym, ap, ap₂, ◌∙◌, subst, arith, true≢false}
+use Rattle.std.proofs.Common.{◌≡◌, ℕ, ◌+◌, ◌-◌, ◌*◌, ◌<◌, ◌≤◌, Bool, true, false, cond, ◌&&◌, ◌||◌, List, length, Option, Some, None, ◌⊎◌, inl, inr, refl, sym, ap, ◌∙◌, subst, arith}
 use Rattle.std.specs.Prelude.{◌==◌, nat_lt, nat_le}
 use Rattle.std.specs.List.{Contains, list_any}
-use Rattle.std.proofs.lemmas.Bool.{eqb-true, eq-eqb, ltb-true, lt-ltb, leb-true, le-leb, and_parts, and_from, cases_eq}
+use Rattle.std.proofs.lemmas.Bool.{eqb-true, eq-eqb, ltb-true, lt-ltb, leb-true, le-leb, and_parts, and_from}
 use Rattle.adg_base.specs.Address.{Place, same_place}
 use Rattle.adg_base.specs.Shard.{shard_of_unit}
 use Rattle.adg_base.specs.declared.node.Item.{Item}
-use Rattle.core_rules.specs.Extents.{IsInExtent}
-use Rattle.core_rules.specs.State.{CoreState, Collected, Link, ColumnUnit, Units, At, has_change, has_coarse, has_drop, HasCollected}
+use Rattle.core_rules.specs.State.{CoreState, Collected, ColumnUnit, Units, has_change, has_coarse, has_drop}
 use Rattle.core_rules.specs.Flush.{CanTouch, Touches, Marks, IsMarked, IsTouched, CanFinish, Finishes, CanPublish, Publishes}
-use Rattle.core_rules.proofs.Lists.{has, contains, any_contains, any_contains_back, is_true}
+use Rattle.core_rules.proofs.Lists.{any_contains, any_contains_back, is_true}
 
 same_places : (a b : Place) → same_place a b ≡ true → a ≡ b
 same_places a b h =
@@ -55,12 +54,12 @@ hit_marks items collected obj extent a h =
 marks_hit : (items : List Item) (collected : List Collected) (obj extent : ℕ) (a : Place) → Marks items collected obj extent a → is_hit items collected obj extent a ≡ true
 marks_hit items collected obj extent a m =
     and_from (in_extent obj extent a) (list_any (collects items a) collected)
-      (and_from (a.obj == obj) (nat_le (16 * extent) a.block && nat_lt a.block (16 * extent + 16)) (eq-eqb a.obj obj m.within.object)
-        (and_from (nat_le (16 * extent) a.block) (nat_lt a.block (16 * extent + 16)) (le-leb (16 * extent) a.block m.within.from) (lt-ltb a.block (16 * extent + 16) m.within.below)))
-      (any_contains (collects items a) collected m.noted.entry m.noted.within
-        (and_from (has_change m.noted.entry.txn items) (list_any (same_place a) m.noted.entry.places)
-          (ap (λ n. has_change n items) m.noted.of ∙ m.change)
-          (any_contains (same_place a) m.noted.entry.places a m.noted.noted (place_itself a))))
+    (and_from (a.obj == obj) (nat_le (16 * extent) a.block && nat_lt a.block (16 * extent + 16)) (eq-eqb a.obj obj m.within.object)
+    (and_from (nat_le (16 * extent) a.block) (nat_lt a.block (16 * extent + 16)) (le-leb (16 * extent) a.block m.within.from) (lt-ltb a.block (16 * extent + 16) m.within.below)))
+    (any_contains (collects items a) collected m.noted.entry m.noted.within
+    (and_from (has_change m.noted.entry.txn items) (list_any (same_place a) m.noted.entry.places)
+    (ap (λ n. has_change n items) m.noted.of ∙ m.change)
+    (any_contains (same_place a) m.noted.entry.places a m.noted.noted (place_itself a))))
 
 -- a unit with the marks of a worklink
 abbrev pub touched_unit : List Item → List Collected → (obj extent : ℕ) → ColumnUnit → ColumnUnit
@@ -82,6 +81,7 @@ unit_marked items collected obj extent u = record {
     either_true : (b d : Bool) → d ≡ true → (b || d) ≡ true
     either_true true d h = refl
     either_true false d h = h
+
     by_test : (a : Place) → (u.marked a ≡ true) ⊎ (u.marked a ≡ false) → (u.marked a || is_hit items collected obj extent a) ≡ true → (u.marked a ≡ true) ⊎ Marks items collected obj extent a
     by_test a (inl k) h = inl k
     by_test a (inr k) h = inr (hit_marks items collected obj extent a (sym (ap (λ b. b || is_hit items collected obj extent a) k) ∙ h))
@@ -98,26 +98,30 @@ abbrev pub touched_units : List Item → List Collected → (shard : ℕ) → Un
 touched_units items collected shard units = λ obj extent. cond (shard_of_unit obj extent == shard) (touched_one items collected obj extent (units obj extent)) (units obj extent)
 
 pub possible_touch : (c : CoreState) (actor : ℕ) → CanTouch c actor → (new : CoreState) × Touches c actor new
-possible_touch c actor can = (_, record {
-  number = can.number;
-  link = can.link;
-  cursor = can.cursor;
-  collected = can.collected;
-  has = can.has;
-  shard = can.cursor - length c.workers;
-  at = let l : length c.workers ≤ can.cursor = can.from in omega arith;
-  is_shard = let l : length c.workers ≤ can.cursor = can.from in let k : can.cursor < length c.workers + 32 = can.below in omega arith;
-  units = touched_units can.link.items can.collected (can.cursor - length c.workers) c.units;
-  touched = touched;
-  others = others;
-  effect = refl;
-})
+possible_touch c actor can = (
+  _,
+  record {
+    number = can.number;
+    link = can.link;
+    cursor = can.cursor;
+    collected = can.collected;
+    has = can.has;
+    shard = can.cursor - length c.workers;
+    at = let l : length c.workers ≤ can.cursor = can.from in omega arith;
+    is_shard = let l : length c.workers ≤ can.cursor = can.from in let k : can.cursor < length c.workers + 32 = can.below in omega arith;
+    units = touched_units can.link.items can.collected (can.cursor - length c.workers) c.units;
+    touched = touched;
+    others = others;
+    effect = refl;
+  },
+)
   where
     touched : (obj extent : ℕ) → shard_of_unit obj extent ≡ can.cursor - length c.workers
         → IsTouched can.link.items can.collected obj extent (c.units obj extent) (touched_units can.link.items can.collected (can.cursor - length c.workers) c.units obj extent)
     touched obj extent e =
         subst (λ b. IsTouched can.link.items can.collected obj extent (c.units obj extent) (cond b (touched_one can.link.items can.collected obj extent (c.units obj extent)) (c.units obj extent)))
-          (sym (eq-eqb (shard_of_unit obj extent) (can.cursor - length c.workers) e)) (one_touched can.link.items can.collected obj extent (c.units obj extent))
+        (sym (eq-eqb (shard_of_unit obj extent) (can.cursor - length c.workers) e)) (one_touched can.link.items can.collected obj extent (c.units obj extent))
+
     others : (obj extent : ℕ) → (shard_of_unit obj extent ≡ can.cursor - length c.workers → ⊥) → touched_units can.link.items can.collected (can.cursor - length c.workers) c.units obj extent ≡ c.units obj extent
     others obj extent d = by_test (shard_of_unit obj extent == (can.cursor - length c.workers)) refl
       where

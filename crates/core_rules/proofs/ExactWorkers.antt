@@ -1,6 +1,6 @@
 -- Where Apply, Mine and Raise can happen there is a state that they make.
-use Rattle.std.proofs.Common.{◌≡◌, ℕ, ◌+◌, ◌<◌, ◌≤◌, ◌%◌, max, Bool, true, false, List, [], ◌∷◌, ◌++◌, length, Option, Some, None, ◌⊎◌, inl, inr, refl, sym, ap, ◌∙◌, subst, arith, true≢false, mod-lt}
-use Rattle.std.specs.Prelude.{slice_set, option_to_list}
+use Rattle.std.proofs.Common.{◌≡◌, ℕ, ◌+◌, ◌<◌, ◌≤◌, ◌%◌, max, true, false, List, [], ◌∷◌, length, Option, Some, None, ◌⊎◌, inl, inr, refl, sym, ap, ◌∙◌, subst, arith, true≢false, mod-lt}
+use Rattle.std.specs.Prelude.{slice_set}
 use Rattle.std.specs.List.{Contains}
 use Rattle.adg_base.specs.Address.{Place}
 use Rattle.adg_base.specs.Area.{Held, HoldsPlace, HoldsBegin}
@@ -12,7 +12,7 @@ use Rattle.adg_model.specs.declared.mined.Mined.{Mined}
 use Rattle.adg_model.specs.declared.mined.Mined.TheVariants as mined
 use Rattle.adg_model.specs.Mined.{mined_of}
 use Rattle.core_rules.specs.Share.{is_shared_by}
-use Rattle.core_rules.specs.State.{CoreState, Worker, Shard, At, share_of}
+use Rattle.core_rules.specs.State.{CoreState, Shard, At, share_of}
 use Rattle.core_rules.specs.Applying.{CanApply, Applies, CanMine, Mines, AreaTakes, CanRaise, Raises}
 use Rattle.core_rules.specs.Invariant.{Invariant}
 use Rattle.core_rules.proofs.Lists.{Has, has, contains, at_exists, at_contains}
@@ -38,16 +38,21 @@ has_shard workers w None h = absurd (true≢false (sym h))
 has_shard workers w (Some n) h = (n, refl)
 
 pub possible_apply : (c : CoreState) (worker : ℕ) → Invariant c → CanApply c worker → (new : CoreState) × Applies c worker new
-possible_apply c worker v can = (record c {
-  workers = slice_set c.workers worker (record can.was { applied = can.was.applied + 1 });
-  shards = slice_set c.shards shard.0 (record at.0 { applied = max at.0.applied (entry.0.pos + 1) });
-}, record { was = can.was; found = can.found; entry = entry.0; next = entry.1; place = shard.0; own = shard.1; shard = at.0; at = at.1; effect = refl })
+possible_apply c worker v can = (
+  record c {
+    workers = slice_set c.workers worker (record can.was { applied = can.was.applied + 1 });
+    shards = slice_set c.shards shard.0 (record at.0 { applied = max at.0.applied (entry.0.pos + 1) });
+  },
+  record { was = can.was; found = can.found; entry = entry.0; next = entry.1; place = shard.0; own = shard.1; shard = at.0; at = at.1; effect = refl },
+)
   where
     entry : (e : LogEntry) × At (share_of c worker) can.was.applied e
     entry = at_exists (share_of c worker) can.was.applied can.left
+
     shard : (n : ℕ) × (shard_of_vector entry.0.vector ≡ Some n)
     shard = has_shard (length c.workers) worker (shard_of_vector entry.0.vector)
-      (share_own (length c.workers) worker c.log entry.0 (at_contains (share_of c worker) can.was.applied entry.0 entry.1))
+        (share_own (length c.workers) worker c.log entry.0 (at_contains (share_of c worker) can.was.applied entry.0 entry.1))
+
     at : (s : Shard) × At c.shards shard.0 s
     at = at_exists c.shards shard.0 (let l : shard.0 < 64 = shard_within entry.0.vector shard.0 shard.1 in let n : length c.shards ≡ 64 = v.shards.count in omega arith)
 
@@ -95,11 +100,13 @@ takes_begin t area = record {
   where
     first : Held
     first = record { txn = t; begun = true; places = [] }
+
     places : (u : ℕ) (a : Place) → (h : HoldsPlace (first ∷ area) u a) → Has (first ∷ area) h.held → HoldsPlace area u a
     places u a h (inr k) = record { held = h.held; within = contains area h.held k; of = h.of; noted = h.noted }
     places u a h (inl e) =
         let none : Contains [] a = subst (λ (x : Held). Contains x.places a) (sym e) h.noted in
         absurd (has [] a none)
+
     begins : (u : ℕ) → (h : HoldsBegin (first ∷ area) u) → Has (first ∷ area) h.held → HoldsBegin area u ⊎ (Some (mined.Begin t) ≡ Some (mined.Begin u))
     begins u h (inr k) = inl (record { held = h.held; within = contains area h.held k; of = h.of; noted = h.noted })
     begins u h (inl e) = let same : t ≡ u = ap (λ (x : Held). x.txn) e ∙ h.of in inr (ap (λ n. Some (mined.Begin n)) same)
@@ -116,6 +123,7 @@ takes_note t p area = record {
   where
     first : Held
     first = record { txn = t; begun = false; places = p ∷ [] }
+
     places : (u : ℕ) (a : Place) → (h : HoldsPlace (first ∷ area) u a) → Has (first ∷ area) h.held → HoldsPlace area u a ⊎ (Some (mined.Note t p) ≡ Some (mined.Note u a))
     places u a h (inr k) = inl (record { held = h.held; within = contains area h.held k; of = h.of; noted = h.noted })
     places u a h (inl e) = by_place (has (p ∷ []) a (subst (λ (x : Held). Contains x.places a) (sym e) h.noted))
@@ -123,6 +131,7 @@ takes_note t p area = record {
         by_place : Has (p ∷ []) a → HoldsPlace area u a ⊎ (Some (mined.Note t p) ≡ Some (mined.Note u a))
         by_place (inr k) = absurd k
         by_place (inl one) = let same : t ≡ u = ap (λ (x : Held). x.txn) e ∙ h.of in inr (cc)
+
     begins : (u : ℕ) → (h : HoldsBegin (first ∷ area) u) → Has (first ∷ area) h.held → HoldsBegin area u
     begins u h (inr k) = record { held = h.held; within = contains area h.held k; of = h.of; noted = h.noted }
     begins u h (inl e) = absurd (true≢false (sym h.noted ∙ sym (ap (λ (x : Held). x.begun) e)))
@@ -135,16 +144,19 @@ area_takes (Some (mined.End t flag committed)) area = takes_nothing (Some (mined
 area_takes (Some (mined.Ddl obj)) area = takes_nothing (Some (mined.Ddl obj)) area (λ u a h. absurd cc) (λ u h. absurd cc)
 
 pub possible_mine : (c : CoreState) (worker : ℕ) → Invariant c → CanMine c worker → (new : CoreState) × Mines c worker new
-possible_mine c worker v can = (_, record {
-  was = can.was;
-  found = can.found;
-  behind = can.behind;
-  entry = entry.0;
-  next = entry.1;
-  area = area_with (mined_of c.log entry.0) can.was.area;
-  noted = area_takes (mined_of c.log entry.0) can.was.area;
-  effect = refl;
-})
+possible_mine c worker v can = (
+  _,
+  record {
+    was = can.was;
+    found = can.found;
+    behind = can.behind;
+    entry = entry.0;
+    next = entry.1;
+    area = area_with (mined_of c.log entry.0) can.was.area;
+    noted = area_takes (mined_of c.log entry.0) can.was.area;
+    effect = refl;
+  },
+)
   where
     within : can.was.mined < length (share_of c worker)
     within =
@@ -152,6 +164,7 @@ possible_mine c worker v can = (_, record {
         let applied : can.was.applied ≤ length (share_of c worker) = counts.within in
         let behind : can.was.mined < can.was.applied = can.behind in
         omega arith
+
     entry : (e : LogEntry) × At (share_of c worker) can.was.mined e
     entry = at_exists (share_of c worker) can.was.mined within
 

@@ -1,6 +1,6 @@
 -- What a sound log says of the notes of transactions: while an object stays in-memory, what a transaction touches
 -- of it is noted, and its commit has the flag.
-use Rattle.std.proofs.Common.{◌≡◌, ℕ, ◌+◌, ◌<◌, ◌≤◌, Bool, true, false, cond, not, ◌&&◌, ◌||◌, List, [], ◌∷◌, ◌++◌, Option, Some, None, ◌⊎◌, inl, inr, refl, sym, ap, ◌∙◌, subst, arith, true≢false, append-nil, append_assoc}
+use Rattle.std.proofs.Common.{◌≡◌, ℕ, ◌<◌, ◌≤◌, Bool, true, false, cond, not, ◌&&◌, ◌||◌, List, [], ◌∷◌, ◌++◌, Option, Some, None, ◌⊎◌, inl, inr, refl, sym, ap, ◌∙◌, subst, arith, true≢false, append-nil, append_assoc}
 use Rattle.std.specs.Prelude.{◌==◌, nat_le}
 use Rattle.std.specs.List.{Contains, AllByRecursion}
 use Rattle.std.proofs.lemmas.Bool.{eqb-true, eq-eqb, leb-true, leb-false, le-leb, and_parts, or_left}
@@ -10,7 +10,6 @@ use Rattle.adg_base.specs.declared.vector.Vector.TheVariants.{Begin, Put, Delete
 use Rattle.adg_base.specs.declared.log.LogEntry.{LogEntry}
 use Rattle.adg_model.specs.declared.fault.CheckKind.{CheckKind}
 use Rattle.adg_model.specs.declared.fault.CheckKind.TheVariants.{TxnUnknown, NoObject, BadAddress, NothingToUndo, BadFlag}
-use Rattle.adg_model.specs.declared.mined.Mined.{Mined}
 use Rattle.adg_model.specs.declared.mined.Mined.TheVariants as mined
 use Rattle.adg_model.specs.Log.{upto}
 use Rattle.adg_model.specs.Database.{Database, Table, Change, no_database, database, after, walked, set_at, is_in_memory, has_change, struck, table_at, touched_by}
@@ -21,7 +20,7 @@ use Rattle.adg_model.proofs.RowLaws.{walked_append}
 use Rattle.core_rules.specs.Share.{NotRedefined}
 use Rattle.core_rules.specs.LogFacts.{IsLog, IsInMemory}
 use Rattle.core_rules.proofs.Lists.{Has, has, contains, each_has, each_from_has, has_filter, has_append_left, has_append_right, has_append_cases}
-use Rattle.core_rules.proofs.FactsTables.{sound_split, walked_created, tied, walked_stays, walked_back, scns_rise, begun_by, rises_first, between, same_table, created_after}
+use Rattle.core_rules.proofs.FactsTables.{sound_split, walked_created, tied, walked_stays, walked_back, scns_rise, begun_by, rises_first, between, same_table}
 
 -- a list split at one of its elements
 pub record SplitAt {X : Type 0} (xs : List X) (x : X) : Type 0 where
@@ -108,6 +107,7 @@ noted_at log scn txn t p a touch h =
   where
     note : txn ≡ t → p ≡ a → Some (mined.Note txn p) ≡ Some (mined.Note t a)
     note e f = cc
+
     by_test : (b : Bool) → b ≡ true → Some (mined.Note txn p) ≡ Some (mined.Note t a) → cond b (Some (mined.Note txn p)) None ≡ Some (mined.Note t a)
     by_test true u k = k
     by_test false u k = absurd (true≢false (sym u))
@@ -147,7 +147,7 @@ noted log frontier l t a e low high m touch le mem k = notes_touched log e t a t
         let upto_self : Has (upto e.scn log) e = has_filter (λ (x : LogEntry). nat_le x.scn e.scn) log e (has log e m) (le-leb e.scn e.scn (omega arith)) in
         let end : is_in_memory ((walked (walked no_database (upto e.scn log)) b.middle).tables a.obj) ≡ true =
         ap (λ (db : Database). is_in_memory (db.tables a.obj)) (sym (walked_append no_database (upto e.scn log) b.middle))
-            ∙ ap (λ es. is_in_memory ((walked no_database es).tables a.obj)) (sym b.whole) ∙ in_memory log a.obj low mem in
+        ∙ ap (λ es. is_in_memory ((walked no_database es).tables a.obj)) (sym b.whole) ∙ in_memory log a.obj low mem in
         walked_back (walked no_database (upto e.scn log)) b.middle a.obj b.then (created_by (upto e.scn log) e t a b.first upto_self touch) end
 
 -- an object that is in-memory at an SCN, and is not redefined from there to an entry that touches it, is in-memory
@@ -160,15 +160,20 @@ memory_found log frontier l t a before e later low whole touch mem k = by_test (
   where
     rises : ScnsRise (before ++ e ∷ later)
     rises = subst ScnsRise whole (scns_rise 1 frontier log l.scns)
+
     sound : SoundFrom no_database before × SoundFrom (walked no_database before) (e ∷ later)
     sound = sound_split no_database before (e ∷ later) (subst (λ es. SoundFrom no_database es) whole l.sound)
+
     found : Found (walked no_database before) t a
     found = touch_found (walked no_database before) e.vector t a touch sound.1.1
+
     split : upto low log ≡ upto low before ++ upto low (e ∷ later)
     split = ap (upto low) whole ∙ upto_append low before (e ∷ later)
+
     first : (b : Bool) → b ≡ true → cond b (e ∷ upto low later) (upto low later) ≡ e ∷ upto low later
     first true u = refl
     first false u = absurd (true≢false (sym u))
+
     by_test : (b : Bool) → nat_le e.scn low ≡ b → is_in_memory ((walked no_database before).tables a.obj) ≡ true
     by_test true u =
         let le : e.scn ≤ low = leb-true e.scn low u in
@@ -178,7 +183,7 @@ memory_found log frontier l t a before e later low whole touch mem k = by_test (
         let r = sound_split no_database before (e ∷ upto low later) (subst (λ es. SoundFrom no_database es) is b.first) in
         let end : is_in_memory ((walked (walked no_database before) (e ∷ upto low later)).tables a.obj) ≡ true =
         ap (λ (db : Database). is_in_memory (db.tables a.obj)) (sym (walked_append no_database before (e ∷ upto low later)))
-            ∙ ap (λ es. is_in_memory ((walked no_database es).tables a.obj)) (sym is) ∙ in_memory log a.obj low mem in
+        ∙ ap (λ es. is_in_memory ((walked no_database es).tables a.obj)) (sym is) ∙ in_memory log a.obj low mem in
         walked_back (walked no_database before) (e ∷ upto low later) a.obj r.1 (tied before a.obj found.table found.defined) end
     by_test false u =
         let above : low < e.scn = leb-false e.scn low u in
@@ -190,10 +195,10 @@ memory_found log frontier l t a before e later low whole touch mem k = by_test (
         let defined : (walked no_database (upto low before)).tables a.obj ≡ Some mem.table = ap (λ es. (walked no_database es).tables a.obj) (sym is) ∙ mem.defined in
         let member : (x : LogEntry) → Has b.rest x → Has before x = λ x m. subst (λ es. Has es x) (sym b.whole) (has_append_right (upto low before) b.rest x m) in
         let stays = walked_stays (walked no_database (upto low before)) b.rest a.obj mem.table r.1 (tied (upto low before) a.obj mem.table defined) defined
-            (λ x m d. k x (contains log x (subst (λ es. Has es x) (sym whole) (has_append_left before (e ∷ later) x (member x m)))) d (b.above x m) (rises_across before e later x rises (member x m))) in
+        (λ x m d. k x (contains log x (subst (λ es. Has es x) (sym whole) (has_append_left before (e ∷ later) x (member x m)))) d (b.above x m) (rises_across before e later x rises (member x m))) in
         ap (λ es. is_in_memory ((walked no_database es).tables a.obj)) b.whole
-            ∙ ap (λ (db : Database). is_in_memory (db.tables a.obj)) (walked_append no_database (upto low before) b.rest)
-            ∙ ap is_in_memory stays ∙ mem.flag
+        ∙ ap (λ (db : Database). is_in_memory (db.tables a.obj)) (walked_append no_database (upto low before) b.rest)
+        ∙ ap is_in_memory stays ∙ mem.flag
 
 -- a transaction that has ended touches nothing afterwards
 end_set : (ended : ℕ → Bool) (txn t : ℕ) → ended t ≡ true → set_at txn true ended t ≡ true
@@ -288,6 +293,7 @@ put_case db txn t a c h = by_test (t == txn) refl h
       where
         same : t ≡ txn
         same = eqb-true t txn e
+
         by_place : (y : Bool) → same_place a c.at ≡ y → (y || has_change a (db.pending txn)) ≡ true → (has_change a (db.pending t) ≡ true) ⊎ (cond (txn == t) (Some c.at) None ≡ Some a)
         by_place true f u = inr (yes (txn == t) (eq-eqb txn t (sym same)) (sym (place_true a c.at f)))
           where
@@ -333,6 +339,7 @@ pending_put db (e ∷ es) t a h = either (pending_put (after db e.vector) es t a
     first : WasOrPut db e.vector t a → (has_change a (db.pending t) ≡ true) ⊎ HasPut (e ∷ es) t a
     first (inl k) = inl k
     first (inr k) = inr (e, inl refl, k)
+
     either : (has_change a ((after db e.vector).pending t) ≡ true) ⊎ HasPut es t a → (has_change a (db.pending t) ≡ true) ⊎ HasPut (e ∷ es) t a
     either (inl k) = first (was_or_put db e.vector t a k)
     either (inr r) = inr (r.0, inr r.1, r.2)
@@ -344,11 +351,14 @@ put_first before e later t a r touch = by_vector e.vector refl r touch
   where
     here : (v : Vector) → e.vector ≡ v → puts_by t v ≡ Some a → HasPut (before ++ e ∷ later) t a
     here v same h = (e, has_append_right before (e ∷ later) e (inl refl), ap (puts_by t) same ∙ h)
+
     earlier : HasPut before t a → HasPut (before ++ e ∷ later) t a
     earlier p = (p.0, has_append_left before (e ∷ later) p.0 p.1, p.2)
+
     either : (has_change a [] ≡ true) ⊎ HasPut before t a → HasPut (before ++ e ∷ later) t a
     either (inl k) = absurd (true≢false (sym k))
     either (inr p) = earlier p
+
     undone : (txn o b s : ℕ) → refusal (walked no_database before) (Undo txn o b s) ≡ None → cond (txn == t) (Some (place o b s)) None ≡ Some a → HasPut (before ++ e ∷ later) t a
     undone txn o b s k h =
         let db = walked no_database before in
@@ -359,6 +369,7 @@ put_first before e later t a r touch = by_vector e.vector refl r touch
         let has = (demanded (has_change (place o b s) (db.pending txn)) NothingToUndo None later).0 in
         let moved : has_change a (db.pending t) ≡ true = subst (λ n. has_change a (db.pending n) ≡ true) p.0 (subst (λ (q : Place). has_change q (db.pending txn) ≡ true) p.1 has) in
         either (pending_put no_database before t a moved)
+
     by_vector : (v : Vector) → e.vector ≡ v → refusal (walked no_database before) v ≡ None → touched_by t v ≡ Some a → HasPut (before ++ e ∷ later) t a
     by_vector (Put txn o b s row) same k h = here (Put txn o b s row) same h
     by_vector (Delete txn o b s) same k h = here (Delete txn o b s) same h
@@ -432,16 +443,22 @@ flagged log frontier l t a e f flag low me mf touch commit mem k = either (has_a
   where
     p : SplitAt log f
     p = split_at log f (has log f mf)
+
     db : Database
     db = walked no_database p.before
+
     rises : ScnsRise (p.before ++ f ∷ p.later)
     rises = subst ScnsRise p.whole (scns_rise 1 frontier log l.scns)
+
     sound : SoundFrom no_database p.before × SoundFrom db (f ∷ p.later)
     sound = sound_split no_database p.before (f ∷ p.later) (subst (λ es. SoundFrom no_database es) p.whole l.sound)
+
     checked : refusal db (Commit t flag) ≡ None
     checked = subst (λ v. refusal db v ≡ None) commit sound.1.1
+
     same : same_flag flag (db.noted t) ≡ true
     same = (demanded (same_flag flag (db.noted t)) BadFlag None (demanded (is_running db t) TxnUnknown _ checked).1).0
+
     put_noted : HasPut p.before t a → flag ≡ true
     put_noted r =
         let x = r.0 in
@@ -454,19 +471,24 @@ flagged log frontier l t a e f flag low me mf touch commit mem k = either (has_a
         let then = walked_noted (after (walked no_database q.before) x.vector) q.later t now in
         let end : db.noted t ≡ true = ap (λ es. (walked no_database es).noted t) q.whole ∙ ap (λ (d : Database). d.noted t) (walked_append no_database q.before (x ∷ q.later)) ∙ then in
         flag_true flag (db.noted t) same end
+
     earlier : Has p.before e → flag ≡ true
     earlier m =
         let q = split_at p.before e m in
         let first = sound_split no_database q.before (e ∷ q.later) (subst (λ es. SoundFrom no_database es) q.whole sound.0) in
         let put = put_first q.before e q.later t a first.1.1 touch in
         put_noted (subst (λ es. HasPut es t a) (sym q.whole) put)
+
     set_true : (b : Bool) → b ≡ true → cond b true (db.ended t) ≡ true
     set_true true u = refl
     set_true false u = absurd (true≢false (sym u))
+
     ended : (after db f.vector).ended t ≡ true
     ended = subst (λ v. (after db v).ended t ≡ true) (sym commit) (set_true (t == t) (eq-eqb t t refl))
+
     no_touch : touched_by t f.vector ≡ Some a → ⊥
     no_touch h = let c : None ≡ Some a = subst (λ v. touched_by t v ≡ Some a) commit h in cc
+
     either : Has p.before e ⊎ Has (f ∷ p.later) e → flag ≡ true
     either (inl m) = earlier m
     either (inr (inl e')) = absurd (no_touch (ap (λ (y : LogEntry). touched_by t y.vector) e' ∙ touch))

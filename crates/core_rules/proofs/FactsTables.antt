@@ -1,14 +1,13 @@
 -- What a sound log says of the definition of an object: it stays where nothing changes it, and it has 1 to 256
 -- extents.
-use Rattle.std.proofs.Common.{◌≡◌, ℕ, ◌+◌, ◌<◌, ◌≤◌, Bool, true, false, cond, not, List, [], ◌∷◌, ◌++◌, Option, Some, None, ◌⊎◌, inl, inr, refl, sym, ap, ◌∙◌, subst, arith, true≢false}
+use Rattle.std.proofs.Common.{◌≡◌, ℕ, ◌<◌, ◌≤◌, Bool, true, false, cond, not, List, [], ◌∷◌, ◌++◌, Option, Some, None, inl, inr, refl, sym, ap, ◌∙◌, subst, arith, true≢false}
 use Rattle.std.specs.Prelude.{◌==◌, nat_le}
 use Rattle.std.specs.List.{Contains, AllByRecursion}
-use Rattle.std.proofs.lemmas.Bool.{eqb-true, eqb-false, eq-eqb, leb-true}
+use Rattle.std.proofs.lemmas.Bool.{eqb-true, eq-eqb, leb-true}
 use Rattle.adg_base.specs.declared.value.ColKind.{ColKind}
 use Rattle.adg_base.specs.declared.vector.Vector.{Vector}
 use Rattle.adg_base.specs.declared.vector.Vector.TheVariants.{Begin, Put, Delete, Undo, Commit, Abort, Create, DropObject, AddColumn, NoInMemory, EndThread}
 use Rattle.adg_base.specs.declared.log.LogEntry.{LogEntry}
-use Rattle.adg_model.specs.declared.fault.CheckKind.{CheckKind}
 use Rattle.adg_model.specs.declared.fault.CheckKind.TheVariants.{ObjectTwice}
 use Rattle.adg_model.specs.Spelling.{IsVector}
 use Rattle.adg_model.specs.Log.{upto}
@@ -18,7 +17,7 @@ use Rattle.adg_model.proofs.LogLaws.{ScnsRise, scns_split, upto_upto}
 use Rattle.adg_model.proofs.RowLaws.{walked_append}
 use Rattle.core_rules.specs.Share.{redefines, NotRedefined}
 use Rattle.core_rules.specs.LogFacts.{IsLog}
-use Rattle.core_rules.proofs.Lists.{Has, has, contains, each_has, each_weaker, has_filter_back, has_append_left, has_append_right}
+use Rattle.core_rules.proofs.Lists.{Has, contains, each_has, each_weaker, has_filter_back, has_append_right}
 
 -- what a vector makes of the definition of an object
 abbrev pub table_after : ℕ → Option Table → Vector → Option Table
@@ -144,6 +143,7 @@ tied_after db v o tied table h = by_vector v (sym (tables_after db v o) ∙ h)
   where
     from : (w : Table) × (db.tables o ≡ Some w) → db.created o ≡ true
     from r = tied r.0 r.1
+
     by_vector : (v : Vector) → table_after o (db.tables o) v ≡ Some table → (after db v).created o ≡ true
     by_vector (Create obj e f columns) k = by_test (o == obj) k
       where
@@ -231,14 +231,14 @@ pub walked_stays : (db : Database) (es : List LogEntry) (o : ℕ) (table : Table
 walked_stays db [] o table s c h k = h
 walked_stays db (e ∷ es) o table s c h k =
     walked_stays (after db e.vector) es o table s.2 (created_after db e.vector o c)
-        (tables_after db e.vector o ∙ table_stays db e.vector o (db.tables o) table h c s.1 (λ r. k e (inl refl) r))
-        (λ x m r. k x (inr m) r)
+    (tables_after db e.vector o ∙ table_stays db e.vector o (db.tables o) table h c s.1 (λ r. k e (inl refl) r))
+    (λ x m r. k x (inr m) r)
 
 pub walked_back : (db : Database) (es : List LogEntry) (o : ℕ) → SoundFrom db es → db.created o ≡ true → is_in_memory ((walked db es).tables o) ≡ true → is_in_memory (db.tables o) ≡ true
 walked_back db [] o s c h = h
 walked_back db (e ∷ es) o s c h =
     memory_back db e.vector o (db.tables o) c s.1
-        (ap is_in_memory (sym (tables_after db e.vector o)) ∙ walked_back (after db e.vector) es o s.2 (created_after db e.vector o c) h)
+    (ap is_in_memory (sym (tables_after db e.vector o)) ∙ walked_back (after db e.vector) es o s.2 (created_after db e.vector o c) h)
 
 walked_bounded : (db : Database) (es : List LogEntry) (o : ℕ) → SoundFrom db es → IsBounded (db.tables o) → IsBounded ((walked db es).tables o)
 walked_bounded db [] o s h = h
@@ -308,7 +308,7 @@ unfolding database
 same_table log frontier l obj low high table le h k =
     let b = between log frontier low high l le in
     let stays = walked_stays (walked no_database (upto low log)) b.middle obj table b.then (tied (upto low log) obj table h) h
-        (λ e m r. let f = b.from e m in k e f.0 r f.1 f.2) in
+    (λ e m r. let f = b.from e m in k e f.0 r f.1 f.2) in
     ap (λ es. (walked no_database es).tables obj) b.whole ∙ ap (λ (db : Database). db.tables obj) (walked_append no_database (upto low log) b.middle) ∙ stays
 
 -- an object has 1 to 256 extents

@@ -31,12 +31,12 @@ flushed_after : (c after : CoreState) (t scn : ℕ) → after.log ≡ c.log → 
     → CommitsAt c.log t scn → c.query < scn → scn ≤ after.query → IsFlushed c after t
 flushed_after c after t scn log_is born_is units_are i j commit above upto = record {
   marked = λ a e extent u within notes stands in_extent.
-    let is = j.units a.obj extent u stands in
-    let was = i.units a.obj extent u (ap (λ us. us a.obj extent) (sym units_are) ∙ stands) in
-    let low : u.snapshot ≤ c.query = was.snapshot in
-    let since : u.snapshot < scn = omega arith in
-    let covered = is.covered t scn commit_after since (inl upto) (same_earlier after.log a.obj u.snapshot after.query scn upto is.stands.same) in
-    covered_mark after.log t a.obj extent u a
+      let is = j.units a.obj extent u stands in
+      let was = i.units a.obj extent u (ap (λ us. us a.obj extent) (sym units_are) ∙ stands) in
+      let low : u.snapshot ≤ c.query = was.snapshot in
+      let since : u.snapshot < scn = omega arith in
+      let covered = is.covered t scn commit_after since (inl upto) (same_earlier after.log a.obj u.snapshot after.query scn upto is.stands.same) in
+      covered_mark after.log t a.obj extent u a
       (subst (λ (l : List LogEntry). Contains (touched t l) a) (sym log_is) (noted_touches c.log t a e within notes)) in_extent covered;
   no_places = λ worker w a found holds. (j.workers worker w found).area.stays t a holds (inl ended);
   no_begins = λ worker w found holds. (j.workers worker w found).area.begin_stays t holds (inl ended);
@@ -44,18 +44,20 @@ flushed_after c after t scn log_is born_is units_are i j commit above upto = rec
   where
     commit_after : CommitsAt after.log t scn
     commit_after = subst (λ (l : List LogEntry). CommitsAt l t scn) (sym log_is) commit
+
     since_restart : after.born < scn
     since_restart =
         let e : after.born ≡ c.born = born_is in
         let l : c.born ≤ c.query = i.numbers.restarted in
         omega arith
+
     ended : EndedWithin after.log after.born after.query t
     ended = commit_cut after t scn after.born after.query commit_after since_restart upto
 
 pub flush_before_publish : Keeps Publishes → LogHasFacts → FlushBeforePublish
 flush_before_publish keeps facts c new t scn i r commit above upto =
     flushed_after c new t scn (ap (λ (s : CoreState). s.log) r.effect) (ap (λ (s : CoreState). s.born) r.effect) (ap (λ (s : CoreState). s.units) r.effect)
-      i (keeps facts c new r i) commit above upto
+    i (keeps facts c new r i) commit above upto
 
 pub units_cover : UnitsCover
 units_cover c obj extent scn u i stands low high =

@@ -1,8 +1,8 @@
 -- The events of a scan keep the invariant and the precision of marks: what it gathers of an extent, from a unit or
 -- from the blocks, is each committed row once.
-use Rattle.std.proofs.Common.{◌≡◌, ℕ, suc, ◌+◌, ◌-◌, ◌*◌, ◌<◌, ◌≤◌, Bool, true, false, not, ◌==◌, ◌&&◌, if◌then◌else◌, List, [], ◌∷◌, ◌++◌, map, length, replicate, Option, Some, None, ◌⊎◌, inl, inr, refl, sym, ap, ◌∙◌, subst, arith, true≢false}
+use Rattle.std.proofs.Common.{◌≡◌, ℕ, suc, ◌+◌, ◌-◌, ◌*◌, ◌<◌, ◌≤◌, Bool, true, false, not, ◌&&◌, if◌then◌else◌, List, [], ◌∷◌, ◌++◌, map, length, replicate, Option, Some, None, ◌⊎◌, inl, inr, refl, sym, ap, ◌∙◌, subst, arith, true≢false}
 use Rattle.std.specs.Prelude.{nat_le, option_map}
-use Rattle.std.specs.List.{Contains, filter_map, flat_map, range_with_len, cons_option}
+use Rattle.std.specs.List.{filter_map, flat_map, range_with_len, cons_option}
 use Rattle.std.proofs.lemmas.Bool.{eqb-true, eq-eqb, leb-true, and_from, and_parts}
 use Rattle.std.proofs.lemmas.List.{append-nil, length-append, length-replicate}
 use Rattle.std.proofs.lemmas.List.Elements.{filter_map-append}
@@ -13,19 +13,17 @@ use Rattle.adg_base.specs.declared.value.Value.TheVariants.{Null}
 use Rattle.adg_base.specs.declared.placed.PlacedRow.{PlacedRow}
 use Rattle.adg_base.specs.declared.command.Select.{Select}
 use Rattle.adg_base.specs.declared.answer.Reply.{Reply}
-use Rattle.adg_base.specs.declared.log.LogEntry.{LogEntry}
-use Rattle.adg_model.specs.Database.{Rows, Table, rows_at, table_at, touched}
+use Rattle.adg_model.specs.Database.{Rows, Table, rows_at, table_at}
 use Rattle.adg_model.specs.Query.{padded}
-use Rattle.core_rules.specs.Share.{CommitsAt}
-use Rattle.core_rules.specs.Extents.{IsInExtent, placed_row, block_rows, rows_of_blocks, extent_rows, without_places, extent_places}
-use Rattle.core_rules.specs.State.{CoreState, ColumnUnit, Scan, Session, Free, Scanning, At}
+use Rattle.core_rules.specs.Extents.{IsInExtent, placed_row, rows_of_blocks, extent_rows, without_places, extent_places}
+use Rattle.core_rules.specs.State.{CoreState, ColumnUnit, Scan, Free, Scanning}
 use Rattle.core_rules.specs.Scans.{BeginsScan, Look, look_if, look_at, row_in, from_columns, from_blocks, gathered_at, gathered, count_from_columns, count_from_blocks, Gathers, next_look, next_places, new_scan, scan_then, EndsScan}
 use Rattle.core_rules.specs.LogFacts.{LogFacts, NotTouched}
 use Rattle.core_rules.specs.Covering.{Covers}
 use Rattle.core_rules.specs.UnitParts.{ColumnsAre, IsCovered, ScanIs}
 use Rattle.core_rules.specs.Invariant.{Invariant, Precise}
 use Rattle.core_rules.proofs.Keeps.{Keeps, KeepsPrecise}
-use Rattle.core_rules.proofs.Lists.{Has, has_flat_map_back, has_map_back, has_range_back, is_true}
+use Rattle.core_rules.proofs.Lists.{Has, has_flat_map_back, has_map_back, has_range_back}
 use Rattle.core_rules.proofs.Holds.{one_session_keeps}
 use Rattle.core_rules.proofs.Populated.{range_append}
 use Rattle.core_rules.proofs.FlushLaw.{units_cover}
@@ -160,22 +158,26 @@ module _ (c : CoreState) (s : Scan) (i : Invariant c) (facts : LogFacts c.log c.
       same_table : covers.built.table ≡ s.table
       same_table =
           let now : table_at c.log s.scn s.select.obj ≡ Some covers.built.table =
-            facts.same_table s.select.obj u.snapshot s.scn covers.built.table covers.snapshot covers.built.defined covers.same in
+          facts.same_table s.select.obj u.snapshot s.scn covers.built.table covers.snapshot covers.built.defined covers.same in
           let both : Some covers.built.table ≡ Some s.table = sym now ∙ is.defined in
           cc
+
       untouched : NotTouched c.log u.snapshot s.scn a
       untouched t commit at above upto touches = by_cover (covers.marked t commit at above upto)
         where
           by_cover : IsCovered c.log t s.select.obj s.extents u → ⊥
           by_cover (inl whole) = true≢false (sym whole ∙ partly)
           by_cover (inr each) = true≢false (sym (each a touches (extent_holds s.select.obj s.extents a h)) ∙ clean)
+
       same_row : rows_at c.log s.scn a ≡ rows_at c.log u.snapshot a
       same_row = facts.same_row a u.snapshot s.scn covers.snapshot untouched
+
       columns_are : columns ≡ filter_map (placed_row (rows_at c.log u.snapshot) (length covers.built.table.kinds)) (next_places s)
       columns_are =
           let built : ColumnsAre (Some columns) (extent_rows (rows_at c.log u.snapshot) s.select.obj (length covers.built.table.kinds) s.extents) =
-            subst (λ (o : Option (List PlacedRow)). ColumnsAre o (extent_rows (rows_at c.log u.snapshot) s.select.obj (length covers.built.table.kinds) s.extents)) ready covers.built.columns in
+          subst (λ (o : Option (List PlacedRow)). ColumnsAre o (extent_rows (rows_at c.log u.snapshot) s.select.obj (length covers.built.table.kinds) s.extents)) ready covers.built.columns in
           built ∙ filter_map_pieces (placed_row (rows_at c.log u.snapshot) (length covers.built.table.kinds)) (block_places s.select.obj) (range_with_len (16 * s.extents) 16)
+
       found : row_in columns a ≡ option_map (padded (length s.table.kinds)) (rows_at c.log s.scn a)
       found =
           ap (λ (rs : List PlacedRow). row_in rs a) columns_are
@@ -200,11 +202,13 @@ module _ (c : CoreState) (s : Scan) (i : Invariant c) (facts : LogFacts c.log c.
               partly : (b : Bool) → (not b) ≡ true → b ≡ false
               partly true n = sym n
               partly false n = refl
+
               parts : ((not u.all) ≡ true) × (nat_le u.snapshot s.scn ≡ true)
               parts = and_parts (not u.all) (nat_le u.snapshot s.scn) k
+
               by_mark : (b : Bool) → u.marked a ≡ b
                   → (if b then option_map (padded (length s.table.kinds)) (rows_at c.log s.scn a) else option_map (padded (length s.table.kinds)) (row_in columns a))
-                    ≡ bare (rows_at c.log s.scn) (length s.table.kinds) a
+                  ≡ bare (rows_at c.log s.scn) (length s.table.kinds) a
               by_mark true m = refl
               by_mark false m =
                   column_row u columns a (units_cover c s.select.obj s.extents s.scn u i e (leb-true u.snapshot s.scn parts.1) is.scn) ready (partly u.all parts.0) m h
@@ -269,10 +273,13 @@ scan_after c s i facts is left = record {
   where
     db : Rows
     db = rows_at c.log s.scn
+
     width : ℕ
     width = length s.table.kinds
+
     more : List (List Value)
     more = gathered (next_look c s) db width (next_places s)
+
     rows : s.rows ++ more ≡ without_places (rows_of_blocks db s.select.obj width 0 (16 * (s.extents + 1)))
     rows =
         ap (λ (rs : List (List Value)). rs ++ more) (is.rows ∙ bare_rows db s.select.obj width 0 (16 * s.extents))
@@ -280,6 +287,7 @@ scan_after c s i facts is left = record {
         ∙ sym (filter_map-append (bare db width) (places_of s.select.obj 0 (16 * s.extents)) (next_places s))
         ∙ ap (filter_map (bare db width)) (sym (one_extent s.select.obj s.extents))
         ∙ sym (bare_rows db s.select.obj width 0 (16 * (s.extents + 1)))
+
     split : s.col + count_from_columns (next_look c s) (next_places s) + (s.row + count_from_blocks (next_look c s) db (next_places s)) ≡ length (s.rows ++ more)
     split =
         let before : s.col + s.row ≡ length s.rows = is.split in
@@ -305,7 +313,7 @@ scan_begin_precise session select facts c new r i precise = subst Precise (sym r
 pub gather_keeps : (session : ℕ) → Keeps (λ c new. Gathers c session new)
 gather_keeps session facts c new r i = subst Invariant (sym r.effect)
     (one_session_keeps c r.place (Scanning r.scan) (Scanning (scan_then c r.scan)) i r.is.found refl tt
-      (scan_after c r.scan i (facts c.log c.frontier i.log) (i.scans r.place r.scan r.is.found) r.left))
+    (scan_after c r.scan i (facts c.log c.frontier i.log) (i.scans r.place r.scan r.is.found) r.left))
 
 pub gather_precise : (session : ℕ) → KeepsPrecise (λ c new. Gathers c session new)
 gather_precise session facts c new r i precise = subst Precise (sym r.effect) precise

@@ -1,10 +1,10 @@
 -- Who holds publication back when one session is set, and what an event of one session has to show so that the
 -- invariant is kept.
-use Rattle.std.proofs.Common.{◌≡◌, ℕ, zero, suc, ◌+◌, ◌<◌, ◌≤◌, Bool, true, false, cond, List, [], ◌∷◌, length, take, Option, Some, None, ◌⊎◌, inl, inr, refl, sym, ap, ◌∙◌, subst, arith}
+use Rattle.std.proofs.Common.{◌≡◌, ℕ, zero, suc, ◌+◌, ◌<◌, ◌≤◌, Bool, true, false, cond, List, [], ◌∷◌, length, take, Some, None, ◌⊎◌, inl, inr, refl, sym, ap, ◌∙◌, subst, arith}
 use Rattle.std.specs.Prelude.{slice_set, count_by}
 use Rattle.std.proofs.lemmas.List.Sums.{sum_by-cons}
 use Rattle.adg_base.specs.declared.log.LogEntry.{LogEntry}
-use Rattle.core_rules.specs.State.{CoreState, Worker, Quiesce, ColumnUnit, Units, Population, Scan, Session, Free, Populating, Scanning, At, cut_through, limit, holds_back, holders}
+use Rattle.core_rules.specs.State.{CoreState, Worker, Quiesce, ColumnUnit, Units, Population, Session, Free, Populating, Scanning, At, cut_through, limit, holds_back, holders}
 use Rattle.core_rules.specs.Parts.{NumbersAre, QuiesceIs, ProgressIs, PartitionIs, DdlIs, ItemsAre, items_of}
 use Rattle.core_rules.specs.Share.{share, shares}
 use Rattle.core_rules.specs.UnitParts.{UnitIsPrecise, PopulationIs, TicketsDiffer, HasItsUnits, ScanIs}
@@ -128,6 +128,7 @@ module _ (c : CoreState) (place : ℕ) (what : Session) (quiesce : Quiesce) (uni
     where
       is_own : (p : Population) → Populating p ≡ what → TicketIsOwn c.sessions place (Populating p)
       is_own p e = subst (λ (s : Session). TicketIsOwn c.sessions place s) (sym e) own
+
       either : ((m ≡ place) × (Populating p ≡ what)) ⊎ ((m ≡ place → ⊥) × At c.sessions m (Populating p))
           → ((n ≡ place) × (Populating q ≡ what)) ⊎ ((n ≡ place → ⊥) × At c.sessions n (Populating q)) → m ≡ n
       either (inl a) (inl b) = a.0 ∙ sym b.0

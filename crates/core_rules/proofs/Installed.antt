@@ -1,16 +1,16 @@
 -- The event PopEnd keeps the invariant and the precision of marks.
-use Rattle.std.proofs.Common.{◌≡◌, ℕ, ◌+◌, ◌*◌, ◌<◌, ◌≤◌, Bool, true, false, ◌==◌, ◌&&◌, if◌then◌else◌, List, [], length, Option, Some, None, ◌⊎◌, inl, inr, refl, sym, ap, ◌∙◌, subst, arith, true≢false}
-use Rattle.std.specs.Prelude.{slice_set, is_none}
+use Rattle.std.proofs.Common.{◌≡◌, ℕ, ◌+◌, ◌*◌, ◌<◌, ◌≤◌, Bool, true, false, ◌==◌, if◌then◌else◌, List, [], length, Option, Some, None, ◌⊎◌, inl, inr, refl, sym, ap, ◌∙◌, subst, arith, true≢false}
+use Rattle.std.specs.Prelude.{is_none}
 use Rattle.std.proofs.lemmas.Bool.{eqb-true, ltb-true, and_parts}
 use Rattle.adg_base.specs.declared.log.LogEntry.{LogEntry}
 use Rattle.adg_base.specs.declared.placed.PlacedRow.{PlacedRow}
 use Rattle.adg_model.specs.Database.{Table, rows_at, table_at}
 use Rattle.core_rules.specs.declared.event.CoreAnswer.{CoreAnswer}
 use Rattle.core_rules.specs.Extents.{extent_rows, rows_of_blocks}
-use Rattle.core_rules.specs.State.{CoreState, Link, ColumnUnit, Units, Population, Session, Free, Populating, At, limit, holds_back}
+use Rattle.core_rules.specs.State.{CoreState, ColumnUnit, Units, Population, Session, Free, Populating, At, limit, holds_back}
 use Rattle.core_rules.specs.Populations.{Installs, awaits, filled, with_unit, units_installed, installed_then, has_more, session_then}
-use Rattle.core_rules.specs.UnitParts.{UnitIs, UnitIsBuilt, ColumnsAre, UnitIsPrecise, PopulationIs, HasItsUnits}
-use Rattle.core_rules.specs.Invariant.{Invariant, Precise, unit_place, AllUnits}
+use Rattle.core_rules.specs.UnitParts.{UnitIs, UnitIsBuilt, UnitIsPrecise, PopulationIs, HasItsUnits}
+use Rattle.core_rules.specs.Invariant.{Invariant, Precise, unit_place}
 use Rattle.core_rules.proofs.Keeps.{Keeps, KeepsPrecise}
 use Rattle.core_rules.proofs.Holds.{session_keeps, still_held, SessionIs, TicketIsOwn}
 use Rattle.core_rules.proofs.Populated.{unit_cases}
@@ -70,9 +70,9 @@ module _ (c : CoreState) (p : Population) (is : PopulationIs c.log c.query c.tic
     in_memory = built.in_memory;
     within = built.within;
     columns =
-      all_read
-      ∙ ap (λ (n : ℕ). extent_rows (rows_at c.log n) p.obj (length p.table.kinds) p.extent) (sym at)
-      ∙ ap (λ (t : Table). extent_rows (rows_at c.log w.snapshot) p.obj (length t.kinds) p.extent) (sym same_table);
+        all_read
+        ∙ ap (λ (n : ℕ). extent_rows (rows_at c.log n) p.obj (length p.table.kinds) p.extent) (sym at)
+        ∙ ap (λ (t : Table). extent_rows (rows_at c.log w.snapshot) p.obj (length t.kinds) p.extent) (sym same_table);
   }
     where
       same_table : built.table ≡ p.table
@@ -122,14 +122,19 @@ install_keeps session answer facts c new r i = subst Invariant (sym r.effect)
   where
     p : Population
     p = r.population
+
     was : PopulationIs c.log c.query c.ticket p
     was = i.populations r.place p r.is.found
+
     units : Units
     units = units_installed p c.units
+
     installed : ℕ
     installed = installed_then p c.units
+
     what : Session
     what = session_then p installed
+
     -- it holds publication back no more
     back : holds_back what ≡ holds_back (Populating p)
     back = by_test (has_more p)
@@ -137,6 +142,7 @@ install_keeps session answer facts c new r i = subst Invariant (sym r.effect)
         by_test : (b : Bool) → holds_back (if b then Populating (next_extent p installed) else Free) ≡ p.holds
         by_test true = refl
         by_test false = sym r.released
+
     stand : (o e : ℕ) (u : ColumnUnit) → units o e ≡ Some u → UnitIs c.log c.query c.ticket c.links (unit_place c o e) o e u
     stand o e u h = either (installed_cases c.units p o e u h)
       where
@@ -145,9 +151,10 @@ install_keeps session answer facts c new r i = subst Invariant (sym r.effect)
         either (inl k) =
             let at = (i.tied r.place p r.is.found p.obj p.extent k.was k.stood k.ticket).1 in
             subst (λ (m : ℕ). UnitIs c.log c.query c.ticket c.links (unit_place c m e) m e u) (sym k.object)
-              (subst (λ (m : ℕ). UnitIs c.log c.query c.ticket c.links (unit_place c p.obj m) p.obj m u) (sym k.at)
-                (subst (λ (w : ColumnUnit). UnitIs c.log c.query c.ticket c.links (unit_place c p.obj p.extent) p.obj p.extent w) k.same
-                  (filled_is c p was r.whole (unit_place c p.obj p.extent) k.was at (i.units p.obj p.extent k.was k.stood))))
+            (subst (λ (m : ℕ). UnitIs c.log c.query c.ticket c.links (unit_place c p.obj m) p.obj m u) (sym k.at)
+            (subst (λ (w : ColumnUnit). UnitIs c.log c.query c.ticket c.links (unit_place c p.obj p.extent) p.obj p.extent w) k.same
+            (filled_is c p was r.whole (unit_place c p.obj p.extent) k.was at (i.units p.obj p.extent k.was k.stood))))
+
     -- a unit keeps its ticket, its object and its snapshot
     tied : (n : ℕ) (q : Population) → At c.sessions n (Populating q) → HasItsUnits units q
     tied n q found o e u h same = either (installed_cases c.units p o e u h)
@@ -158,14 +165,17 @@ install_keeps session answer facts c new r i = subst Invariant (sym r.effect)
             let tickets : (k.was).ticket ≡ q.ticket = ap (λ (w : ColumnUnit). w.ticket) k.same ∙ same in
             let old = i.tied n q found p.obj p.extent k.was k.stood tickets in
             (k.object ∙ old.0, sym (ap (λ (w : ColumnUnit). w.snapshot) k.same) ∙ old.1)
+
     others : (n : ℕ) (q : Population) → (n ≡ r.place → ⊥) → At c.sessions n (Populating q) → HasItsUnits units q
     others n q apart found = tied n q found
+
     own : TicketIsOwn c.sessions r.place what
     own = by_test (has_more p)
       where
         by_test : (b : Bool) → TicketIsOwn c.sessions r.place (if b then Populating (next_extent p installed) else Free)
         by_test true = λ n q apart found same. apart (i.tickets n r.place q p found r.is.found same)
         by_test false = tt
+
     is : SessionIs c.log c.query c.ticket units what
     is = by_test (has_more p) refl
       where

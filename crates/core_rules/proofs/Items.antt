@@ -1,7 +1,7 @@
 -- What the items of a flush tell of the log, and the log of them.
-use Rattle.std.proofs.Common.{◌≡◌, ℕ, ◌+◌, ◌<◌, ◌≤◌, Bool, true, false, List, [], ◌∷◌, ◌++◌, map, filter, length, take, drop, Option, Some, None, ◌⊎◌, inl, inr, refl, sym, ap, ◌∙◌, subst, arith, true≢false, IsPermutation}
+use Rattle.std.proofs.Common.{◌≡◌, ℕ, ◌<◌, ◌≤◌, Bool, true, false, List, map, length, take, drop, Some, ◌⊎◌, inl, inr, refl, sym, ap, ◌∙◌, subst, arith, true≢false}
 use Rattle.std.specs.Prelude.{nat_lt, nat_le}
-use Rattle.std.specs.List.{Contains, list_any, filter_map, flat_map}
+use Rattle.std.specs.List.{Contains, list_any, flat_map}
 use Rattle.std.proofs.lemmas.Bool.{eqb-true, eq-eqb, ltb-true, lt-ltb, leb-true, le-leb, and_parts, and_from}
 use Rattle.std.proofs.lemmas.List.Sorted.{Contains-permutation, IsPermutation-sym}
 use Rattle.adg_base.specs.declared.vector.Vector.TheVariants.{Commit}
@@ -11,12 +11,10 @@ use Rattle.adg_base.specs.declared.node.NodeKind.{NodeKind}
 use Rattle.adg_base.specs.declared.node.NodeKind.TheVariants as node
 use Rattle.adg_base.specs.declared.node.DdlNode.{DdlNode}
 use Rattle.adg_base.specs.declared.node.Item.{Item}
-use Rattle.adg_base.specs.declared.node.Item.TheVariants as item
 use Rattle.adg_model.specs.Mined.{end_item, node_item, ddl_item}
 use Rattle.adg_base.specs.Shard.{shard_of_txn, shard_of_object}
-use Rattle.core_rules.specs.Share.{share, shares, ends, redefines, begun_above, node_of, nodes_of, ddl_of, ddl_in, EndedWithin}
-use Rattle.core_rules.specs.State.{CoreState, Worker, Link, At, share_of, limit, is_item_of, is_change_of, is_coarse, is_drop_of, has_txn, has_change, has_coarse, has_drop}
-use Rattle.core_rules.specs.LogFacts.{LogFacts, LogHasFacts}
+use Rattle.core_rules.specs.Share.{shares, ends, begun_above, node_of, nodes_of, ddl_of, ddl_in, EndedWithin}
+use Rattle.core_rules.specs.State.{CoreState, Link, At, share_of, limit, is_item_of, is_change_of, is_coarse, is_drop_of, has_change, has_coarse}
 use Rattle.core_rules.specs.Parts.{is_within, flush_nodes, flush_ddl, flush_items, items_of}
 use Rattle.core_rules.specs.Invariant.{Invariant}
 use Rattle.core_rules.proofs.Lists.{Has, has, contains, has_at, at_has, at_map, at_map_back, has_append_left, has_append_right, has_append_cases, has_map, has_map_back, has_filter, has_filter_back, has_filter_map, has_filter_map_back, has_flat_map, has_flat_map_back, any_has, any_has_back, each_has, each_drop_at, contains_take_cases}
@@ -163,15 +161,17 @@ coarses_commit c v n l h k =
   where
     either : (i : Item) → is_coarse i ≡ true → IsOfNode c.log c.born c.query (limit c) i ⊎ IsDdlItem i → (t : ℕ) × CutCommit c t false
     either i u (inl r) =
-        let p = coarse_of_node r.node (subst (λ j. is_coarse j ≡ true) (sym r.item) u) in
-        (r.node.txn, record {
-          entry = r.entry;
-          within = r.within;
-          commits = node_committed (begun_above c.log c.born) r.entry r.node true r.of p.1;
-          above = r.above;
-          upto = r.upto;
-          begun = sym r.is.whole ∙ p.0;
-        })
+        let p = coarse_of_node r.node (subst (λ j. is_coarse j ≡ true) (sym r.item) u) in (
+          r.node.txn,
+          record {
+            entry = r.entry;
+            within = r.within;
+            commits = node_committed (begun_above c.log c.born) r.entry r.node true r.of p.1;
+            above = r.above;
+            upto = r.upto;
+            begun = sym r.is.whole ∙ p.0;
+          },
+        )
     either i u (inr d) = let w : is_coarse (ddl_item d.0) ≡ true = subst (λ j. is_coarse j ≡ true) (sym d.1) u in absurd (true≢false (sym w))
 
 -- the item of an entry that ends a transaction
@@ -184,9 +184,13 @@ end_in_flush c v t e h k l u =
     let there = shares_has (length c.workers) (shard_of_txn t) c.log e v.manned h (end_shard t e.vector k) in
     let in_nodes = has_filter_map (node_of (begun_above c.log c.born)) entries e n.0 there n.1 in
     let w : is_within c.query (limit c) n.0.scn ≡ true = subst (λ s. is_within c.query (limit c) s ≡ true) (sym is.scn) (within_scn c.query (limit c) e.scn l u) in
-    let in_flush = has_filter (λ (m : Node). is_within c.query (limit c) m.scn) (nodes_of c.log c.born entries) n.0 in_nodes w in
-    (n.0, n.1, n.2, has_append_left (map node_item (flush_nodes c.log c.born c.query (limit c) entries)) (map ddl_item (flush_ddl c.query (limit c) entries)) (node_item n.0)
-      (has_map node_item (flush_nodes c.log c.born c.query (limit c) entries) n.0 in_flush))
+    let in_flush = has_filter (λ (m : Node). is_within c.query (limit c) m.scn) (nodes_of c.log c.born entries) n.0 in_nodes w in (
+      n.0,
+      n.1,
+      n.2,
+      has_append_left (map node_item (flush_nodes c.log c.born c.query (limit c) entries)) (map ddl_item (flush_ddl c.query (limit c) entries)) (node_item n.0)
+          (has_map node_item (flush_nodes c.log c.born c.query (limit c) entries) n.0 in_flush),
+    )
 
 pub ends_have_items : EndsHaveItems
 ends_have_items c v t r =
@@ -202,9 +206,9 @@ redefinitions_have_items c v obj e h k l u =
     let w : is_within c.query (limit c) d.0.scn ≡ true = subst (λ s. is_within c.query (limit c) s ≡ true) (sym d.2) (within_scn c.query (limit c) e.scn l u) in
     let in_flush = has_filter (λ (m : DdlNode). is_within c.query (limit c) m.scn) (ddl_in entries) d.0 in_ddl w in
     item_link c v (is_drop_of obj) (ddl_item d.0)
-      (has_append_right (map node_item (flush_nodes c.log c.born c.query (limit c) entries)) (map ddl_item (flush_ddl c.query (limit c) entries)) (ddl_item d.0)
-        (has_map ddl_item (flush_ddl c.query (limit c) entries) d.0 in_flush))
-      (eq-eqb d.0.obj obj d.3)
+    (has_append_right (map node_item (flush_nodes c.log c.born c.query (limit c) entries)) (map ddl_item (flush_ddl c.query (limit c) entries)) (ddl_item d.0)
+    (has_map ddl_item (flush_ddl c.query (limit c) entries) d.0 in_flush))
+    (eq-eqb d.0.obj obj d.3)
 
 -- the item of a commit with the flag
 committed_item : (t : ℕ) (n : Node) → n.kind ≡ node.Committed true → n.txn ≡ t
@@ -227,16 +231,22 @@ commits_have_items facts c v n l t e h k w commit =
       where
         same : r.node.txn ≡ t
         same = item_of_node t r.node (subst (λ j. is_item_of t j ≡ true) (sym r.item) u)
+
         ends_t : ends t r.entry.vector ≡ true
         ends_t = subst (λ m. ends m r.entry.vector ≡ true) same r.is.end
+
         e_ends : ends t e.vector ≡ true
         e_ends = subst (λ x. ends t x ≡ true) (sym commit) (eq-eqb t t refl)
+
         one : r.entry ≡ e
         one = (facts c.log c.frontier v.log).ended_once t r.entry e r.within w ends_t e_ends
+
         kind : r.node.kind ≡ node.Committed true
         kind = node_kind (begun_above c.log c.born) r.entry r.node t true r.of (ap (λ (x : LogEntry). x.vector) one ∙ commit)
+
         complete : r.node.complete ≡ begun_above c.log c.born t
         complete = subst (λ m. r.node.complete ≡ begun_above c.log c.born m) same r.is.whole
+
         by_item : ((r.node.complete ≡ true) × (is_change_of t (node_item r.node) ≡ true)) ⊎ ((r.node.complete ≡ false) × (is_coarse (node_item r.node) ≡ true))
             → ((begun_above c.log c.born t ≡ true) × (has_change t l.items ≡ true)) ⊎ ((begun_above c.log c.born t ≡ false) × (has_coarse l.items ≡ true))
         by_item (inl p) = inl (sym complete ∙ p.0, any_has (is_change_of t) l.items i there (subst (λ j. is_change_of t j ≡ true) r.item p.1))

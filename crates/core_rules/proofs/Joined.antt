@@ -1,18 +1,17 @@
 -- Every step and every run keeps the invariant, from what is proved of each event.
-use Rattle.std.proofs.Common.{◌≡◌, ℕ, ◌<◌, List, [], ◌∷◌, ◌⊎◌, inl, inr, refl, sym, subst}
-use Rattle.adg_base.specs.declared.log.LogEntry.{LogEntry}
+use Rattle.std.proofs.Common.{◌≡◌, ℕ, List, [], ◌∷◌, inl, inr, sym, subst}
 use Rattle.adg_base.specs.declared.command.Select.{Select}
 use Rattle.adg_base.specs.declared.answer.Reply.{Reply}
 use Rattle.core_rules.specs.declared.event.Event.{Event}
 use Rattle.core_rules.specs.declared.event.Event.TheVariants as event
 use Rattle.core_rules.specs.declared.event.CoreAnswer.{CoreAnswer}
 use Rattle.core_rules.specs.State.{CoreState, opening}
-use Rattle.core_rules.specs.Applying.{Applies, Mines, Raises, Receives}
+use Rattle.core_rules.specs.Applying.{Applies, Mines, Raises}
 use Rattle.core_rules.specs.Flush.{BeginsFlush, Claims, Collects, Touches, Finishes, Publishes}
 use Rattle.core_rules.specs.Populations.{BeginsPopulation, Registers, Releases, Reads, Installs}
 use Rattle.core_rules.specs.Scans.{BeginsScan, Gathers, EndsScan}
 use Rattle.core_rules.specs.Restarts.{restarted}
-use Rattle.core_rules.specs.Step.{Happens, Steps}
+use Rattle.core_rules.specs.Step.{Happens}
 use Rattle.core_rules.specs.LogFacts.{LogHasFacts}
 use Rattle.core_rules.specs.Invariant.{Invariant, Precise}
 use Rattle.core_rules.specs.Runs.{Move, Takes, Gets, Leads}

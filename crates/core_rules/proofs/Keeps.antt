@@ -1,14 +1,13 @@
 -- The statements of the lemmas between the parts of the proof, so that each can be proved beside the others.
-use Rattle.std.proofs.Common.{◌≡◌, ℕ, ◌+◌, ◌<◌, ◌≤◌, Bool, true, false, List, length, take, ◌⊎◌}
+use Rattle.std.proofs.Common.{◌≡◌, ℕ, ◌<◌, ◌≤◌, Bool, true, false, List, take, ◌⊎◌}
 use Rattle.std.specs.List.{Contains}
-use Rattle.adg_base.specs.Address.{Place}
 use Rattle.adg_base.specs.declared.vector.Vector.TheVariants.{Commit}
 use Rattle.adg_base.specs.declared.log.LogEntry.{LogEntry}
 use Rattle.adg_base.specs.declared.node.Item.{Item}
-use Rattle.core_rules.specs.Share.{share, redefines, begun_above, EndedWithin, CommitsAt}
+use Rattle.core_rules.specs.Share.{redefines, begun_above, EndedWithin}
 use Rattle.core_rules.specs.State.{CoreState, Worker, Link, At, share_of, limit, has_txn, has_change, has_coarse, has_drop}
-use Rattle.core_rules.specs.LogFacts.{LogFacts, LogHasFacts}
-use Rattle.core_rules.specs.Invariant.{Invariant, Precise, WorkerIs, FlushIs, AllWorkers, AllUnits, AllPopulations, AllTied, AllScans}
+use Rattle.core_rules.specs.LogFacts.{LogHasFacts}
+use Rattle.core_rules.specs.Invariant.{Invariant, Precise}
 
 -- A change of the state keeps the invariant, the precision of marks beside it, and one of its parts. The facts of a
 -- log are taken as given.

@@ -1,5 +1,5 @@
 -- Lemmas on lists: the element at a place, one place set, membership, tests, filters and parts of a list.
-use Rattle.std.proofs.Common.{◌≡◌, ℕ, zero, suc, ◌+◌, ◌-◌, ◌<◌, ◌≤◌, Bool, true, false, cond, ◌&&◌, ◌||◌, List, [], ◌∷◌, ◌++◌, map, filter, length, take, drop, replicate, get_or, Option, Some, None, ◌⊎◌, inl, inr, refl, sym, ap, ap₂, ◌∙◌, subst, arith, true≢false}
+use Rattle.std.proofs.Common.{◌≡◌, ℕ, zero, suc, ◌+◌, ◌<◌, ◌≤◌, Bool, true, false, cond, ◌||◌, List, [], ◌∷◌, ◌++◌, map, filter, length, take, drop, replicate, get_or, Option, Some, None, ◌⊎◌, inl, inr, refl, sym, ap, ◌∙◌, subst, arith, true≢false}
 use Rattle.std.specs.Prelude.{slice_get, slice_set}
 use Rattle.std.specs.List.{Contains, AllByRecursion, list_any, filter_map, flat_map, range_with_len, cons_option}
 use Rattle.std.proofs.lemmas.Option.{slice_get_within}
@@ -381,6 +381,7 @@ filter_order p (z ∷ zs) i j x y l h k = by_test (p z) refl h k (λ a b. filter
   where
     later : (m : ℕ) × (n : ℕ) × At zs m x × At zs n y × (m < n) → (m : ℕ) × (n : ℕ) × At (z ∷ zs) m x × At (z ∷ zs) n y × (m < n)
     later r = (suc r.0, suc r.1, r.2, r.3, omega arith)
+
     by_test : (b : Bool) → p z ≡ b → At (cond b (z ∷ filter p zs) (filter p zs)) i x → At (cond b (z ∷ filter p zs) (filter p zs)) j y
         → ((a b : ℕ) → a < b → At (filter p zs) a x → At (filter p zs) b y → (m : ℕ) × (n : ℕ) × At zs m x × At zs n y × (m < n))
         → (m : ℕ) × (n : ℕ) × At (z ∷ zs) m x × At (z ∷ zs) n y × (m < n)

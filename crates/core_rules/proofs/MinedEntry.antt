@@ -1,12 +1,12 @@
 -- Mine keeps the invariant.
 use Rattle.std.proofs.Common.{◌≡◌, ℕ, ◌+◌, ◌<◌, ◌≤◌, Bool, true, false, cond, ◌&&◌, List, [], ◌∷◌, ◌++◌, map, filter, length, take, Option, Some, None, ◌⊎◌, inl, inr, refl, sym, ap, ap₂, ◌∙◌, subst, arith, true≢false}
-use Rattle.std.specs.Prelude.{◌==◌, slice_set, nat_lt, option_to_list}
-use Rattle.std.specs.List.{Contains, list_any, filter_map, cons_option}
-use Rattle.std.proofs.lemmas.Bool.{eqb-true, eq-eqb, ltb-true, lt-ltb, and_parts, and_from, cases_order}
+use Rattle.std.specs.Prelude.{◌==◌, nat_lt, option_to_list}
+use Rattle.std.specs.List.{Contains, cons_option}
+use Rattle.std.proofs.lemmas.Bool.{eqb-true, eq-eqb, lt-ltb, and_parts, and_from, cases_order}
 use Rattle.std.proofs.lemmas.List.Elements.{filter-append, filter_map-append}
 use Rattle.adg_base.specs.Address.{Place, place}
 use Rattle.adg_base.specs.Area.{Held, HoldsPlace, HoldsBegin}
-use Rattle.adg_base.specs.Shard.{shard_of_txn, shard_of_vector}
+use Rattle.adg_base.specs.Shard.{shard_of_vector}
 use Rattle.adg_base.specs.declared.vector.Vector.{Vector}
 use Rattle.adg_base.specs.declared.vector.Vector.TheVariants.{Begin, Put, Delete, Undo, Commit, Abort, Create, DropObject, AddColumn, NoInMemory, EndThread}
 use Rattle.adg_base.specs.declared.log.LogEntry.{LogEntry}
@@ -17,8 +17,8 @@ use Rattle.adg_model.specs.declared.mined.Mined.{Mined}
 use Rattle.adg_model.specs.declared.mined.Mined.TheVariants as mined
 use Rattle.adg_model.specs.Database.{is_in_memory, table_at, touched_by}
 use Rattle.adg_model.specs.Mined.{mined_of, mined_by, mined_at}
-use Rattle.core_rules.specs.Share.{is_shared_by, share, begins, ends, begun_above, node_by, node_of, nodes_of, ddl_by, ddl_of, NotedIn, BegunIn, EndedWithin}
-use Rattle.core_rules.specs.State.{CoreState, Worker, At, share_of, limit, holds_begin, PassesTxn}
+use Rattle.core_rules.specs.Share.{is_shared_by, share, begins, ends, begun_above, node_by, node_of, nodes_of, ddl_by, ddl_of, NotedIn, BegunIn}
+use Rattle.core_rules.specs.State.{CoreState, Worker, At, share_of, limit, holds_begin}
 use Rattle.core_rules.specs.Applying.{Mines, AreaTakes, mined_node, mined_ddl, entered_if}
 use Rattle.core_rules.specs.LogFacts.{LogFacts, LogHasFacts}
 use Rattle.core_rules.specs.Parts.{AreaIs, IsGone, PartitionIs, DdlIs, mined_from}
@@ -27,7 +27,7 @@ use Rattle.core_rules.proofs.Lists.{Has, has, contains, has_append_left, has_app
 use Rattle.core_rules.proofs.Shares.{share_log, share_own, share_contains, begin_shard, end_shard, note_touches, node_is, begun_entry, entry_begun}
 use Rattle.core_rules.proofs.Keeps.{Keeps, KeepsPrecise}
 use Rattle.core_rules.proofs.Items.{items_end, next_is_above}
-use Rattle.core_rules.proofs.Crew.{IsIn, hold_same, with_crew, counts_with, crew_keeps}
+use Rattle.core_rules.proofs.Crew.{IsIn, hold_same, counts_with, crew_keeps}
 use Rattle.core_rules.proofs.MinedLists.{SplitsMined, splits_mined, mined_ddl_keeps}
 
 -- what is mined as a beginning begins, and the other way round
@@ -40,6 +40,7 @@ begin_note log e t h = by_vector e.vector h
         by_test : (x : Bool) → cond x (Some (mined.Note txn a)) None ≡ Some (mined.Begin t) → ⊥
         by_test true u = absurd cc
         by_test false u = absurd cc
+
     by_vector : (v : Vector) → mined_by log e.scn v ≡ Some (mined.Begin t) → begins t v ≡ true
     by_vector (Begin txn) k = eq-eqb txn t cc
     by_vector (Put txn o b s row) k = absurd (no_begin (place o b s) txn k)
@@ -95,6 +96,7 @@ same_node log e area complete same = by_vector e.vector same
         by_test : (x : Bool) → mined_node e area (cond x (Some (mined.Note txn a)) None) ≡ None
         by_test true = refl
         by_test false = refl
+
     by_vector : (v : Vector) → ((t : ℕ) → ends t v ≡ true → holds_begin area t ≡ complete t) → mined_node e area (mined_by log e.scn v) ≡ node_by complete e.scn e.pos v
     by_vector (Begin txn) k = refl
     by_vector (Put txn o b s row) k = none e.scn txn (place o b s)
@@ -117,6 +119,7 @@ same_ddl log e = by_vector e.vector
         by_test : (x : Bool) → mined_ddl e (cond x (Some (mined.Note txn a)) None) ≡ None
         by_test true = refl
         by_test false = refl
+
     by_vector : (v : Vector) → mined_ddl e (mined_by log e.scn v) ≡ ddl_by e.scn v
     by_vector (Begin txn) = refl
     by_vector (Put txn o b s row) = none e.scn txn (place o b s)
@@ -135,6 +138,7 @@ ddl_scn e d h = by_vector e.vector h
   where
     made : (o : ℕ) → Some (record { scn = e.scn; obj = o }) ≡ Some d → d.scn ≡ e.scn
     made o k = let m : DdlNode = record { scn = e.scn; obj = o } in let u : m ≡ d = cc in sym (ap (λ (x : DdlNode). x.scn) u)
+
     by_vector : (v : Vector) → ddl_by e.scn v ≡ Some d → d.scn ≡ e.scn
     by_vector (DropObject o) k = made o k
     by_vector (AddColumn o x) k = made o k
@@ -211,10 +215,13 @@ begin_is_mined c facts v worker w e n t b h k u = by_place (cases_order at.0 w.m
   where
     log : LogFacts c.log c.frontier
     log = facts c.log c.frontier v.log
+
     own : is_shared_by (length c.workers) worker (shard_of_vector b.vector) ≡ true
     own = subst (λ o. is_shared_by (length c.workers) worker o ≡ true) (end_shard t e.vector h ∙ sym (begin_shard t b.vector u)) n.own
+
     at : (i : ℕ) × At (share_of c worker) i b
     at = contains_at (share_of c worker) b (share_contains (length c.workers) worker c.log b k own)
+
     earlier : b.pos < e.pos
     earlier = pos_of (log.begun_to_end t e n.within h)
       where
@@ -224,6 +231,7 @@ begin_is_mined c facts v worker w e n t b h k u = by_place (cases_order at.0 w.m
             let poses : r.0.pos ≡ b.pos = ap (λ (x : LogEntry). x.pos) same in
             let before : r.0.pos < e.pos = r.3 in
             omega arith
+
     not_later : w.mined < at.0 → ⊥
     not_later l =
         let r = filter_order (λ (x : LogEntry). is_shared_by (length c.workers) worker (shard_of_vector x.vector)) c.log w.mined at.0 e b l n.next at.1 in
@@ -232,6 +240,7 @@ begin_is_mined c facts v worker w e n t b h k u = by_place (cases_order at.0 w.m
         let less : r.0 < r.1 = r.4 in
         let before : b.pos < e.pos = earlier in
         omega arith
+
     by_place : (at.0 ≡ w.mined) ⊎ ((at.0 < w.mined) ⊎ (w.mined < at.0)) → Contains (take w.mined (share_of c worker)) b
     by_place (inl same) =
         let b_at : At (share_of c worker) w.mined b = subst (λ i. At (share_of c worker) i b) same at.1 in
@@ -249,11 +258,13 @@ mark_tells c facts v worker w e n t h = same_tests (holds_begin w.area t) (begun
   where
     area : AreaIs c.log c.born c.query c.links worker (take w.mined (share_of c worker)) w.area
     area = (v.workers worker w n.found).area
+
     noted : holds_begin w.area t ≡ true → begun_above c.log c.born t ≡ true
     noted k =
         let r = area.begun t (begin_held w.area t k) in
         let there = share_log (length c.workers) worker c.log r.entry (contains_take w.mined (share_of c worker) r.entry r.within) in
         entry_begun c.log c.born t r.entry there r.begin r.above
+
     begun : begun_above c.log c.born t ≡ true → holds_begin w.area t ≡ true
     begun k =
         let b = begun_entry c.log c.born t k in
@@ -289,32 +300,40 @@ mined_area c facts v worker w e n area takes = record {
   where
     entries : List LogEntry
     entries = share_of c worker
+
     old : AreaIs c.log c.born c.query c.links worker (take w.mined entries) w.area
     old = (v.workers worker w n.found).area
+
     above : c.born < e.scn
     above =
         let l : limit c < e.scn = n.above in
         let p : c.query ≤ limit c = v.numbers.published in
         let r : c.born ≤ c.query = v.numbers.restarted in
         omega arith
+
     noted : (t : ℕ) (a : Place) → HoldsPlace w.area t a ⊎ (mined_of c.log e ≡ Some (mined.Note t a)) → NotedIn c.log c.born (take (w.mined + 1) entries) t a
     noted t a (inl h) = let r = old.noted t a h in record { entry = r.entry; within = one_more_old entries w.mined e r.entry n.next r.within; above = r.above; notes = r.notes }
     noted t a (inr h) = record { entry = e; within = one_more_new entries w.mined e n.next; above = above; notes = h }
+
     stays : (t : ℕ) (a : Place) → HoldsPlace w.area t a ⊎ (mined_of c.log e ≡ Some (mined.Note t a)) → IsGone c.log c.born c.query c.links worker t → ⊥
     stays t a (inl h) g = old.stays t a h g
     stays t a (inr h) g = touch_not_gone c facts v worker w e n worker t a (note_touches c.log e t a h) g
+
     holds : (t : ℕ) (a : Place) → NotedIn c.log c.born (take (w.mined + 1) entries) t a → (IsGone c.log c.born c.query c.links worker t → ⊥) → HoldsPlace area t a
     holds t a r g = either (one_more_cases entries w.mined e r.entry n.next r.within)
       where
         either : Contains (take w.mined entries) r.entry ⊎ (r.entry ≡ e) → HoldsPlace area t a
         either (inl k) = takes.places_kept t a (old.holds t a (record { entry = r.entry; within = k; above = r.above; notes = r.notes }) g)
         either (inr k) = takes.places_new t a (subst (λ x. mined_of c.log x ≡ Some (mined.Note t a)) k r.notes)
+
     begun : (t : ℕ) → HoldsBegin w.area t ⊎ (mined_of c.log e ≡ Some (mined.Begin t)) → BegunIn c.born (take (w.mined + 1) entries) t
     begun t (inl h) = let r = old.begun t h in record { entry = r.entry; within = one_more_old entries w.mined e r.entry n.next r.within; above = r.above; begin = r.begin }
     begun t (inr h) = record { entry = e; within = one_more_new entries w.mined e n.next; above = above; begin = begin_note c.log e t h }
+
     begin_stays : (t : ℕ) → HoldsBegin w.area t ⊎ (mined_of c.log e ≡ Some (mined.Begin t)) → IsGone c.log c.born c.query c.links worker t → ⊥
     begin_stays t (inl h) g = old.begin_stays t h g
     begin_stays t (inr h) g = begin_not_gone c facts v worker w e n worker t (begin_note c.log e t h) g
+
     holds_begin_new : (t : ℕ) → BegunIn c.born (take (w.mined + 1) entries) t → (IsGone c.log c.born c.query c.links worker t → ⊥) → HoldsBegin area t
     holds_begin_new t r g = either (one_more_cases entries w.mined e r.entry n.next r.within)
       where
@@ -333,17 +352,22 @@ mined_partition c facts v worker w e n = sym all
   where
     complete : ℕ → Bool
     complete = begun_above c.log c.born
+
     entries : List LogEntry
     entries = take w.mined (share_of c worker)
+
     above : (m : Node) → node_of complete e ≡ Some m → limit c < m.scn
     above m h =
         let is : m.scn ≡ e.scn = (node_is complete e m h).scn in
         let l : limit c < e.scn = n.above in
         omega arith
+
     old : filter (λ (x : Node). nat_lt (limit c) x.scn) (nodes_of c.log c.born entries) ≡ w.ends
     old = sym (v.workers worker w n.found).partition
+
     last : filter (λ (x : Node). nat_lt (limit c) x.scn) (nodes_of c.log c.born (e ∷ [])) ≡ option_to_list (mined_node e w.area (mined_of c.log e))
     last = kept_node (limit c) e (node_of complete e) above ∙ ap option_to_list (sym (same_node c.log e w.area complete (mark_tells c facts v worker w e n)))
+
     all : filter (λ (x : Node). nat_lt (limit c) x.scn) (nodes_of c.log c.born (take (w.mined + 1) (share_of c worker))) ≡ w.ends ++ option_to_list (mined_node e w.area (mined_of c.log e))
     all =
         ap (λ es. filter (λ (x : Node). nat_lt (limit c) x.scn) (nodes_of c.log c.born es)) (take_next (share_of c worker) w.mined e n.next)
@@ -356,14 +380,19 @@ mine_keeps worker facts c new r v = subst Invariant (sym r.effect) (crew_keeps c
   where
     what : Option Mined
     what = mined_of c.log r.entry
+
     x : Worker
     x = record r.was { mined = r.was.mined + 1; area = r.area; ends = r.was.ends ++ option_to_list (mined_node r.entry r.was.area what) }
+
     ddl : List DdlNode
     ddl = entered_if (mined_ddl r.entry what) c.ddl
+
     was_is : WorkerIs c worker r.was
     was_is = v.workers worker r.was r.found
+
     n : IsNextMined c worker r.was r.entry
     n = next_mined c v worker r.was r.entry r.found r.next
+
     is : IsIn c (length c.workers) c.shards worker x
     is = record {
       counts = record {
@@ -376,16 +405,20 @@ mine_keeps worker facts c new r v = subst Invariant (sym r.effect) (crew_keeps c
       area = mined_area c facts v worker r.was r.entry n r.area r.noted;
       partition = mined_partition c facts v worker r.was r.entry n;
     }
+
     counts : List ℕ
     counts = map (λ (w : Worker). w.mined) c.workers
+
     zero_more : worker ≡ 0 + worker
     zero_more = omega arith
+
     parts : SplitsMined (length c.workers) 0 worker c.log counts r.was.mined r.entry
     parts = splits_mined (length c.workers) 0 worker c.log counts r.was.mined r.entry (at_map (λ (w : Worker). w.mined) c.workers worker r.was r.found)
-      (subst (λ i. At (share (length c.workers) i c.log) r.was.mined r.entry) zero_more r.next)
+        (subst (λ i. At (share (length c.workers) i c.log) r.was.mined r.entry) zero_more r.next)
+
     ddl_is : DdlIs (limit c) (mined_from (length c.workers) 0 c.log (counts_with c worker x)) ddl
     ddl_is = subst (λ es. DdlIs (limit c) es ddl) (sym (ap (mined_from (length c.workers) 0 c.log) (map_set (λ (w : Worker). w.mined) c.workers worker x) ∙ parts.is))
-      (mined_ddl_keeps (limit c) parts.before parts.later r.entry c.ddl (mined_ddl r.entry what) (sym (same_ddl c.log r.entry)) above
+        (mined_ddl_keeps (limit c) parts.before parts.later r.entry c.ddl (mined_ddl r.entry what) (sym (same_ddl c.log r.entry)) above
         (subst (λ es. DdlIs (limit c) es c.ddl) parts.was v.ddl))
       where
         above : (d : DdlNode) → mined_ddl r.entry what ≡ Some d → limit c < d.scn

@@ -1,8 +1,8 @@
 -- The entries that all workers have mined, with one more, and the table of changes of definitions then.
-use Rattle.std.proofs.Common.{◌≡◌, ℕ, zero, suc, ◌+◌, ◌<◌, ◌≤◌, Bool, true, false, cond, List, [], ◌∷◌, ◌++◌, map, filter, length, take, Option, Some, None, ◌⊎◌, inl, inr, refl, sym, ap, ap₂, ◌∙◌, subst, arith, append_assoc, true≢false, IsPermutation}
-use Rattle.std.specs.Prelude.{slice_set, nat_lt, nat_le, option_to_list}
-use Rattle.std.specs.List.{Contains, AllByRecursion, filter_map, cons_option}
-use Rattle.std.proofs.lemmas.Bool.{ltb-true, lt-ltb, leb-true, leb-false}
+use Rattle.std.proofs.Common.{◌≡◌, ℕ, zero, suc, ◌+◌, ◌<◌, ◌≤◌, Bool, true, false, cond, List, [], ◌∷◌, ◌++◌, filter, take, Option, Some, None, refl, sym, ap, ◌∙◌, subst, arith, append_assoc, IsPermutation}
+use Rattle.std.specs.Prelude.{slice_set, nat_lt, nat_le}
+use Rattle.std.specs.List.{AllByRecursion, cons_option}
+use Rattle.std.proofs.lemmas.Bool.{lt-ltb, leb-true, leb-false}
 use Rattle.std.proofs.lemmas.List.Elements.{filter-append, filter_map-append}
 use Rattle.std.proofs.lemmas.List.Sorted.{IsPermutation-refl, IsPermutation-cons, IsPermutation-trans, IsPermutation-middle}
 use Rattle.adg_base.specs.declared.log.LogEntry.{LogEntry}
@@ -28,17 +28,19 @@ splits_mined workers place zero log (n ∷ ns) m e h k = record {
   later = mined_from workers (place + 1) log ns;
   was = ap (λ i. take i (share workers place log) ++ mined_from workers (place + 1) log ns) same;
   is = ap (λ es. es ++ mined_from workers (place + 1) log ns) (take_next (share workers place log) m e at)
-    ∙ append_assoc (take m (share workers place log)) (e ∷ []) (mined_from workers (place + 1) log ns);
+      ∙ append_assoc (take m (share workers place log)) (e ∷ []) (mined_from workers (place + 1) log ns);
 }
   where
     same : n ≡ m
     same = let x : Some n ≡ Some m = h in cc
+
     at : At (share workers place log) m e
     at = let z : place + 0 ≡ place = omega arith in subst (λ i. At (share workers i log) m e) z k
 splits_mined workers place (suc worker) log (n ∷ ns) m e h k = step (splits_mined workers (place + 1) worker log ns m e h at)
   where
     at : At (share workers (place + 1 + worker) log) m e
     at = let z : place + suc worker ≡ place + 1 + worker = omega arith in subst (λ i. At (share workers i log) m e) z k
+
     step : SplitsMined workers (place + 1) worker log ns m e → SplitsMined workers place (suc worker) log (n ∷ ns) m e
     step r = record {
       before = take n (share workers place log) ++ r.before;
@@ -112,11 +114,14 @@ mined_ddl_keeps limit before later e ddl (Some d) h l r = record {
   where
     all : kept_ddl limit (before ++ e ∷ later) ≡ kept_ddl limit before ++ d ∷ kept_ddl limit later
     all = kept_ddl_append limit before (e ∷ later) ∙ ap (λ ns. kept_ddl limit before ++ ns) (kept_some limit e later d h (l d refl))
+
     old : IsPermutation (kept_ddl limit before ++ kept_ddl limit later) ddl
     old = subst (λ ns. IsPermutation ns ddl) (kept_ddl_append limit before later) r.same
+
     front : IsPermutation (kept_ddl limit before ++ d ∷ kept_ddl limit later) (d ∷ ddl)
     front = IsPermutation-trans (kept_ddl limit before ++ d ∷ kept_ddl limit later) (d ∷ (kept_ddl limit before ++ kept_ddl limit later)) (d ∷ ddl)
-      (IsPermutation-middle (kept_ddl limit before) d (kept_ddl limit later))
-      (IsPermutation-cons d (kept_ddl limit before ++ kept_ddl limit later) ddl old)
+        (IsPermutation-middle (kept_ddl limit before) d (kept_ddl limit later))
+        (IsPermutation-cons d (kept_ddl limit before ++ kept_ddl limit later) ddl old)
+
     moved : IsPermutation (kept_ddl limit before ++ d ∷ kept_ddl limit later) (entered d ddl)
     moved = IsPermutation-trans (kept_ddl limit before ++ d ∷ kept_ddl limit later) (d ∷ ddl) (entered d ddl) front (entered_same d ddl)

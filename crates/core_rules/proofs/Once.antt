@@ -1,15 +1,14 @@
 -- How often a test passes: an entry that ends a transaction stands once in the log, and so once in all shares.
-use Rattle.std.proofs.Common.{◌≡◌, ℕ, zero, suc, ◌+◌, ◌<◌, ◌≤◌, ◌%◌, Bool, true, false, cond, ◌||◌, List, [], ◌∷◌, ◌++◌, map, filter, length, Option, Some, None, ◌⊎◌, inl, inr, refl, sym, ap, ap₂, ◌∙◌, subst, arith, true≢false, mod-lt}
-use Rattle.std.specs.List.{Contains, list_any, filter_map, flat_map, range_with_len, cons_option, count_by}
-use Rattle.std.proofs.lemmas.Bool.{cases_order, cases_eq, eqb-true}
+use Rattle.std.proofs.Common.{◌≡◌, ℕ, zero, suc, ◌+◌, ◌<◌, ◌≤◌, ◌%◌, Bool, true, false, cond, ◌||◌, List, [], ◌∷◌, ◌++◌, map, filter, Option, Some, None, ◌⊎◌, inl, inr, refl, sym, ap, ap₂, ◌∙◌, subst, arith, true≢false}
+use Rattle.std.specs.List.{list_any, filter_map, flat_map, range_with_len, cons_option, count_by}
+use Rattle.std.proofs.lemmas.Bool.{cases_eq, eqb-true}
 use Rattle.std.proofs.lemmas.List.Sums.{sum_by-append}
 use Rattle.adg_base.specs.Shard.{shard_of_txn, shard_of_vector}
 use Rattle.adg_base.specs.declared.log.LogEntry.{LogEntry}
-use Rattle.adg_base.specs.declared.node.Item.{Item}
 use Rattle.core_rules.specs.Share.{is_shared_by, share, shares, ends}
 use Rattle.core_rules.specs.State.{At}
 use Rattle.core_rules.specs.LogFacts.{LogFacts}
-use Rattle.core_rules.proofs.Lists.{Has, at_has, has_at, at_contains, at_same, has_filter_back}
+use Rattle.core_rules.proofs.Lists.{Has, at_has, at_contains, has_filter_back}
 use Rattle.core_rules.proofs.Shares.{end_shard}
 
 pub count_append : {X : Type 0} (p : X → Bool) (xs ys : List X) → count_by p (xs ++ ys) ≡ count_by p xs + count_by p ys
@@ -74,6 +73,7 @@ count_once p (x ∷ xs) h = subst (λ n. n ≤ 1) (sym (count_cons p x xs)) (by_
         by : (b : Bool) → p y ≡ b → b ≡ false
         by false e = refl
         by true e = let at = at_has xs y k in let clash : 0 ≡ suc at.0 = h 0 (suc at.0) x y refl at.1 u e in absurd (omega arith)
+
     by_test : (b : Bool) → p x ≡ b → count_by p xs ≤ 1 → cond b 1 0 + count_by p xs ≤ 1
     by_test true e ih = let zero_left : count_by p xs ≡ 0 = count_none p xs (none e) in omega arith
     by_test false e ih = omega arith
@@ -116,8 +116,10 @@ one_list p f only (suc n) a h k = by_case (cases_eq a only) (one_list p f only n
   where
     rest : ℕ
     rest = count_by p (flat_map f (range_with_len (a + 1) n))
+
     all : count_by p (flat_map f (range_with_len a (suc n))) ≡ count_by p (f a) + rest
     all = count_append p (f a) (flat_map f (range_with_len (a + 1) n))
+
     by_case : (a ≡ only) ⊎ (a ≡ only → ⊥) → (rest ≤ 1) × (only < a + 1 → rest ≡ 0)
         → (count_by p (flat_map f (range_with_len a (suc n))) ≤ 1) × (only < a → count_by p (flat_map f (range_with_len a (suc n))) ≡ 0)
     by_case (inl e) ih =
@@ -136,18 +138,21 @@ end_once log frontier workers t facts manned = (one_list (λ (e : LogEntry). end
   where
     test : LogEntry → Bool
     test e = ends t e.vector
+
     in_log : count_by (λ (e : LogEntry). ends t e.vector) log ≤ 1
     in_log = count_once (λ (e : LogEntry). ends t e.vector) log (λ i j e f h k u w.
-      let one : e ≡ f = facts.ended_once t e f (at_contains log i e h) (at_contains log j f k) u w in
-      let poses : e.pos ≡ f.pos = ap (λ (x : LogEntry). x.pos) one in
-      let a : e.pos ≡ i = facts.positions i e h in
-      let b : f.pos ≡ j = facts.positions j f k in
-      omega arith)
+        let one : e ≡ f = facts.ended_once t e f (at_contains log i e h) (at_contains log j f k) u w in
+        let poses : e.pos ≡ f.pos = ap (λ (x : LogEntry). x.pos) one in
+        let a : e.pos ≡ i = facts.positions i e h in
+        let b : f.pos ≡ j = facts.positions j f k in
+        omega arith)
+
     here : count_by (λ (e : LogEntry). ends t e.vector) (share workers (shard_of_txn t % workers) log) ≤ 1
     here =
         let few = count_filter (λ (e : LogEntry). ends t e.vector) (λ (e : LogEntry). is_shared_by workers (shard_of_txn t % workers) (shard_of_vector e.vector)) log in
         let all : count_by (λ (e : LogEntry). ends t e.vector) log ≤ 1 = in_log in
         omega (arith, few)
+
     others : (w : ℕ) → (w ≡ shard_of_txn t % workers → ⊥) → count_by (λ (e : LogEntry). ends t e.vector) (share workers w log) ≡ 0
     others w d = count_none (λ (e : LogEntry). ends t e.vector) (share workers w log) (λ e k. none e (has_filter_back (λ (x : LogEntry). is_shared_by workers w (shard_of_vector x.vector)) log e k).1)
       where

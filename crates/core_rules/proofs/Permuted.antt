@@ -1,6 +1,6 @@
 -- A test leaves a permutation of what it leaves of a list.
-use Rattle.std.proofs.Common.{◌≡◌, ℕ, zero, suc, ◌+◌, ◌<◌, Bool, true, false, cond, List, [], ◌∷◌, filter, length, get_or, Some, None, Option, ◌⊎◌, inl, inr, refl, sym, ap, ap₂, ◌∙◌, subst, arith, IsPermutation}
-use Rattle.std.specs.Prelude.{slice_get, slice_set}
+use Rattle.std.proofs.Common.{◌≡◌, ℕ, zero, suc, ◌<◌, Bool, true, false, cond, List, [], ◌∷◌, filter, length, get_or, Some, None, ◌⊎◌, inl, inr, refl, sym, ap, ap₂, ◌∙◌, subst, arith, IsPermutation}
+use Rattle.std.specs.Prelude.{slice_set}
 use Rattle.std.specs.List.{swap}
 use Rattle.std.proofs.lemmas.Bool.{cases_order}
 use Rattle.std.proofs.lemmas.List.Sorted.{IsPermutation-refl, IsPermutation-sym, IsPermutation-trans, IsPermutation-cons, IsPermutation-middle, IsPermutation-keeps}
@@ -42,8 +42,8 @@ pulled p (z ∷ zs) zero x h =
     subst (λ y. IsPermutation (filter p (z ∷ zs)) (before p y (filter p zs))) same (IsPermutation-refl (filter p (z ∷ zs)))
 pulled p (z ∷ zs) (suc n) x h =
     IsPermutation-trans (before p z (filter p zs)) (before p z (before p x (filter p (without n zs)))) (before p x (before p z (filter p (without n zs))))
-      (before_keeps p z (filter p zs) (before p x (filter p (without n zs))) (pulled p zs n x h))
-      (before_both p z x (filter p (without n zs)))
+    (before_keeps p z (filter p zs) (before p x (filter p (without n zs))) (pulled p zs n x h))
+    (before_both p z x (filter p (without n zs)))
 
 without_set : {X : Type 0} (xs : List X) (n : ℕ) (y : X) → without n (slice_set xs n y) ≡ without n xs
 without_set [] n y = refl
@@ -61,13 +61,13 @@ front p x y xs n h =
     let left = pulled p xs n y h in
     let right = pulled p (slice_set xs n x) n x (at_set xs n y x h) in
     let right' : IsPermutation (filter p (slice_set xs n x)) (before p x (filter p (without n xs))) =
-      subst (λ ys. IsPermutation (filter p (slice_set xs n x)) (before p x (filter p ys))) (without_set xs n x) right in
+    subst (λ ys. IsPermutation (filter p (slice_set xs n x)) (before p x (filter p ys))) (without_set xs n x) right in
     let rest = filter p (without n xs) in
     IsPermutation-trans (before p x (filter p xs)) (before p x (before p y rest)) (before p y (filter p (slice_set xs n x)))
-      (before_keeps p x (filter p xs) (before p y rest) left)
-      (IsPermutation-trans (before p x (before p y rest)) (before p y (before p x rest)) (before p y (filter p (slice_set xs n x)))
-        (before_both p x y rest)
-        (before_keeps p y (before p x rest) (filter p (slice_set xs n x)) (IsPermutation-sym (filter p (slice_set xs n x)) (before p x rest) right')))
+    (before_keeps p x (filter p xs) (before p y rest) left)
+    (IsPermutation-trans (before p x (before p y rest)) (before p y (before p x rest)) (before p y (filter p (slice_set xs n x)))
+    (before_both p x y rest)
+    (before_keeps p y (before p x rest) (filter p (slice_set xs n x)) (IsPermutation-sym (filter p (slice_set xs n x)) (before p x rest) right')))
 
 -- two elements exchanged
 exchanged : {X : Type 0} (p : X → Bool) (xs : List X) (i j : ℕ) (x y : X) → i < j → At xs i x → At xs j y → IsPermutation (filter p xs) (filter p (slice_set (slice_set xs i y) j x))
@@ -118,10 +118,10 @@ swapped p (z ∷ zs) i j l k =
     let ea : get_or (z ∷ zs) i z ≡ a.0 = get_at (z ∷ zs) i z a.0 a.1 in
     let eb : get_or (z ∷ zs) j z ≡ b.0 = get_at (z ∷ zs) j z b.0 b.1 in
     subst (λ w. IsPermutation (filter p (z ∷ zs)) (filter p (slice_set (slice_set (z ∷ zs) i (get_or (z ∷ zs) j z)) j w))) (sym ea)
-      (subst (λ w. IsPermutation (filter p (z ∷ zs)) (filter p (slice_set (slice_set (z ∷ zs) i w) j a.0))) (sym eb)
-        (exchanged_any p (z ∷ zs) i j a.0 b.0 a.1 b.1))
+    (subst (λ w. IsPermutation (filter p (z ∷ zs)) (filter p (slice_set (slice_set (z ∷ zs) i w) j a.0))) (sym eb)
+    (exchanged_any p (z ∷ zs) i j a.0 b.0 a.1 b.1))
 
 pub filter_permuted : {X : Type 0} (p : X → Bool) (xs ys : List X) → IsPermutation xs ys → IsPermutation (filter p xs) (filter p ys)
 filter_permuted p xs ys h =
     IsPermutation-keeps xs (λ l. IsPermutation (filter p xs) (filter p l)) (IsPermutation-refl (filter p xs))
-      (λ l i j a b k. IsPermutation-trans (filter p xs) (filter p l) (filter p (swap l i j)) k (swapped p l i j a b)) ys h
+    (λ l i j a b k. IsPermutation-trans (filter p xs) (filter p l) (filter p (swap l i j)) k (swapped p l i j a b)) ys h

@@ -1,23 +1,21 @@
 -- The events PopBegin, PopRegister, PopRelease and PopRead keep the invariant and the precision of marks.
-use Rattle.std.proofs.Common.{◌≡◌, ℕ, zero, suc, ◌+◌, ◌-◌, ◌*◌, ◌<◌, ◌≤◌, Bool, true, false, cond, ◌==◌, ◌&&◌, if◌then◌else◌, List, [], ◌∷◌, ◌++◌, length, Option, Some, None, ◌⊎◌, inl, inr, refl, sym, ap, ◌∙◌, subst, arith, true≢false}
-use Rattle.std.specs.Prelude.{slice_set, nat_eq, nat_le}
+use Rattle.std.proofs.Common.{◌≡◌, ℕ, zero, suc, ◌+◌, ◌-◌, ◌*◌, ◌<◌, ◌≤◌, Bool, true, false, ◌==◌, ◌&&◌, if◌then◌else◌, List, [], ◌∷◌, ◌++◌, length, Option, Some, None, ◌⊎◌, inl, inr, refl, sym, ap, ◌∙◌, subst, arith, true≢false}
+use Rattle.std.specs.Prelude.{slice_set, nat_le}
 use Rattle.std.specs.List.{flat_map, range_with_len}
 use Rattle.std.proofs.lemmas.Bool.{eqb-true, eq-eqb, leb-true, leb-false, and_parts}
 use Rattle.std.proofs.lemmas.List.{append-nil}
 use Rattle.std.proofs.lemmas.Grind.{flat_map-append}
 use Rattle.adg_base.specs.declared.log.LogEntry.{LogEntry}
 use Rattle.adg_base.specs.declared.placed.PlacedRow.{PlacedRow}
-use Rattle.adg_model.specs.Database.{Table, rows_at, table_at}
-use Rattle.core_rules.specs.Share.{NotRedefined}
+use Rattle.adg_model.specs.Database.{rows_at}
 use Rattle.core_rules.specs.Extents.{block_rows, rows_of_blocks}
-use Rattle.core_rules.specs.State.{CoreState, Quiesce, Idle, Shared, Flushing, Link, ColumnUnit, Units, Population, Session, Free, Populating, At, cut_through, limit, is_flushing, held_once_more, held_once_less, holders, PassesTxn}
-use Rattle.core_rules.specs.Populations.{BeginsPopulation, Registers, Releases, Reads, has_ticket, loading, new_population, next_block, with_unit}
-use Rattle.core_rules.specs.LogFacts.{LogFacts}
+use Rattle.core_rules.specs.State.{CoreState, Quiesce, Idle, Shared, Flushing, Link, ColumnUnit, Units, Population, Free, Populating, At, cut_through, limit, is_flushing, held_once_more, held_once_less, holders}
+use Rattle.core_rules.specs.Populations.{BeginsPopulation, Registers, Releases, Reads, loading, new_population, next_block, with_unit}
 use Rattle.core_rules.specs.Parts.{QuiesceIs}
-use Rattle.core_rules.specs.UnitParts.{Counts, IsCovered, UnitIs, UnitIsPrecise, PopulationIs, HasItsUnits}
-use Rattle.core_rules.specs.Invariant.{Invariant, Precise, unit_place, AllUnits}
+use Rattle.core_rules.specs.UnitParts.{Counts, UnitIs, UnitIsPrecise, PopulationIs, HasItsUnits}
+use Rattle.core_rules.specs.Invariant.{Invariant, Precise, unit_place}
 use Rattle.core_rules.proofs.Keeps.{Keeps, KeepsPrecise}
-use Rattle.core_rules.proofs.Holds.{holders_same, holders_more, holders_less, session_keeps, session_precise, still_held, one_session_keeps, SessionIs, TicketIsOwn}
+use Rattle.core_rules.proofs.Holds.{holders_more, holders_less, session_keeps, session_precise, still_held, one_session_keeps, SessionIs, TicketIsOwn}
 
 -- What is cut is the same where publication is held back once more or once less.
 cut_more : (query : ℕ) (q : Quiesce) → cut_through query (held_once_more q) ≡ cut_through query q
@@ -61,30 +59,37 @@ populate_keeps session obj facts c new r i = subst Invariant (sym r.effect)
   where
     p : Population
     p = new_population obj c.query r.ticket r.table
+
     held : QuiesceIs (held_once_more c.quiesce) c.query (holders (slice_set c.sessions r.can.place (Populating p))) c.links
     held = held_more c.quiesce c.query (holders c.sessions) (holders (slice_set c.sessions r.can.place (Populating p))) c.links r.can.calm
         (holders_more c.sessions r.can.place Free (Populating p) r.can.free.found refl refl) i.quiesce
+
     stand : (o e : ℕ) (u : ColumnUnit) → c.units o e ≡ Some u → UnitIs c.log c.query r.next c.links (unit_place c o e) o e u
     stand o e u h =
         let is = i.units o e u h in
         let forward : c.ticket ≤ r.next = r.forward in
         let below : u.ticket < c.ticket = is.ticket in
         record { snapshot = is.snapshot; ticket = omega arith; built = is.built; covered = is.covered; stands = is.stands }
+
     own : TicketIsOwn c.sessions r.can.place (Populating p)
     own n q apart found same = true≢false (sym (eq-eqb q.ticket r.ticket same) ∙ r.fresh.populations n (Populating q) found)
+
     is : SessionIs c.log c.query r.next c.units (Populating p)
-    is = (record {
-      snapshot = omega arith;
-      held = λ holds. refl;
-      ticket = r.above;
-      defined = r.defined;
-      in_memory = r.in_memory;
-      registered = omega arith;
-      extent = let one : 1 ≤ r.table.extents = ((facts c.log c.frontier i.log).extents obj c.query r.table r.defined).0 in omega arith;
-      blocks = omega arith;
-      read = refl;
-      installed = omega arith;
-    }, λ o e u h same. absurd (r.fresh.units o e u h same))
+    is = (
+      record {
+        snapshot = omega arith;
+        held = λ holds. refl;
+        ticket = r.above;
+        defined = r.defined;
+        in_memory = r.in_memory;
+        registered = omega arith;
+        extent = let one : 1 ≤ r.table.extents = ((facts c.log c.frontier i.log).extents obj c.query r.table r.defined).0 in omega arith;
+        blocks = omega arith;
+        read = refl;
+        installed = omega arith;
+      },
+      λ o e u h same. absurd (r.fresh.units o e u h same),
+    )
 
 pub populate_precise : (session obj : ℕ) → KeepsPrecise (λ c new. BeginsPopulation c session obj new)
 populate_precise session obj facts c new r i precise = subst Precise (sym r.effect)
@@ -113,8 +118,10 @@ loading_is log query next place p is holds left = record {
   where
     nothing_at : (n : ℕ) (l : Link) → At [] n l → ⊥
     nothing_at n l found = let e : None ≡ Some l = found in absurd cc
+
     nothing_since : (scn : ℕ) → p.snapshot < scn → scn ≤ query → ⊥
     nothing_since scn above upto = let e : p.snapshot ≡ query = is.held holds in absurd (omega arith)
+
     since : (t scn : ℕ) → p.snapshot < scn → Counts query [] place t scn → ⊥
     since t scn above (inl upto) = nothing_since scn above upto
     since t scn above (inr passes) = nothing_at passes.number passes.link passes.found
@@ -126,15 +133,18 @@ one_registered p = record p { registered = p.registered + 1 }
 pub register_keeps : (session : ℕ) → Keeps (λ c new. Registers c session new)
 register_keeps session facts c new r i = subst Invariant (sym r.effect)
     (session_keeps c r.place (Populating (one_registered r.population)) c.quiesce units c.ticket i refl
-      (still_held c r.place (Populating r.population) (Populating (one_registered r.population)) i r.is.found refl) (omega arith) stand others own (is, tied))
+    (still_held c r.place (Populating r.population) (Populating (one_registered r.population)) i r.is.found refl) (omega arith) stand others own (is, tied))
   where
     units : Units
     units = with_unit r.population.obj r.population.registered (Some (loading r.population)) c.units
+
     was : PopulationIs c.log c.query c.ticket r.population
     was = i.populations r.place r.population r.is.found
+
     no_links : c.links ≡ []
     no_links = held_no_links c.quiesce c.query (holders c.sessions) (holders (slice_set c.sessions r.place Free)) c.links
         (holders_less c.sessions r.place (Populating r.population) Free r.is.found r.holds refl) i.quiesce
+
     stand : (o e : ℕ) (u : ColumnUnit) → units o e ≡ Some u → UnitIs c.log c.query c.ticket c.links (unit_place c o e) o e u
     stand o e u h = either (unit_cases c.units r.population.obj r.population.registered o e (Some (loading r.population)) u h)
       where
@@ -144,10 +154,11 @@ register_keeps session facts c new r i = subst Invariant (sym r.effect)
         either (inl k) =
             let same : loading r.population ≡ u = let some : Some (loading r.population) ≡ Some u = k.2 in cc in
             subst (λ (ls : List Link). UnitIs c.log c.query c.ticket ls (unit_place c o e) o e u) (sym no_links)
-              (subst (λ (m : ℕ). UnitIs c.log c.query c.ticket [] (unit_place c o e) m e u) (sym k.0)
-                (subst (λ (m : ℕ). UnitIs c.log c.query c.ticket [] (unit_place c o e) r.population.obj m u) (sym k.1)
-                  (subst (λ (w : ColumnUnit). UnitIs c.log c.query c.ticket [] (unit_place c o e) r.population.obj r.population.registered w) same
-                    (loading_is c.log c.query c.ticket (unit_place c o e) r.population was r.holds r.left))))
+            (subst (λ (m : ℕ). UnitIs c.log c.query c.ticket [] (unit_place c o e) m e u) (sym k.0)
+            (subst (λ (m : ℕ). UnitIs c.log c.query c.ticket [] (unit_place c o e) r.population.obj m u) (sym k.1)
+            (subst (λ (w : ColumnUnit). UnitIs c.log c.query c.ticket [] (unit_place c o e) r.population.obj r.population.registered w) same
+            (loading_is c.log c.query c.ticket (unit_place c o e) r.population was r.holds r.left))))
+
     others : (n : ℕ) (q : Population) → (n ≡ r.place → ⊥) → At c.sessions n (Populating q) → HasItsUnits units q
     others n q apart found o e u h same = either (unit_cases c.units r.population.obj r.population.registered o e (Some (loading r.population)) u h)
       where
@@ -158,8 +169,10 @@ register_keeps session facts c new r i = subst Invariant (sym r.effect)
             let is : loading r.population ≡ u = let some : Some (loading r.population) ≡ Some u = k.2 in cc in
             let tickets : q.ticket ≡ r.population.ticket = sym same ∙ sym (ap (λ (w : ColumnUnit). w.ticket) is) in
             absurd (apart (i.tickets n r.place q r.population found r.is.found tickets))
+
     own : TicketIsOwn c.sessions r.place (Populating (one_registered r.population))
     own n q apart found same = apart (i.tickets n r.place q r.population found r.is.found same)
+
     is : PopulationIs c.log c.query c.ticket (one_registered r.population)
     is = record {
       snapshot = was.snapshot;
@@ -173,6 +186,7 @@ register_keeps session facts c new r i = subst Invariant (sym r.effect)
       read = was.read;
       installed = was.installed;
     }
+
     tied : HasItsUnits units (one_registered r.population)
     tied o e u h same = either (unit_cases c.units r.population.obj r.population.registered o e (Some (loading r.population)) u h)
       where
@@ -196,22 +210,26 @@ register_precise session facts c new r i precise = subst Precise (sym r.effect) 
         either (inl k) =
             let same : loading r.population ≡ u = let some : Some (loading r.population) ≡ Some u = k.2 in cc in
             subst (λ (w : ColumnUnit). UnitIsPrecise c.log c.born (limit c) w) same
-              (record { marked = λ a m. absurd (true≢false (sym m)); all = λ m. absurd (true≢false (sym m)) })
+            (record { marked = λ a m. absurd (true≢false (sym m)); all = λ m. absurd (true≢false (sym m)) })
 
 pub release_keeps : (session : ℕ) → Keeps (λ c new. Releases c session new)
 release_keeps session facts c new r i = subst Invariant (sym r.effect)
     (session_keeps c r.place (Populating released) (held_once_less c.quiesce) c.units c.ticket i (cut_less c.query c.quiesce) held (omega arith) i.units
-      (λ n q apart h. i.tied n q h) own (is, i.tied r.place r.population r.is.found))
+    (λ n q apart h. i.tied n q h) own (is, i.tied r.place r.population r.is.found))
   where
     released : Population
     released = record r.population { holds = false }
+
     was : PopulationIs c.log c.query c.ticket r.population
     was = i.populations r.place r.population r.is.found
+
     held : QuiesceIs (held_once_less c.quiesce) c.query (holders (slice_set c.sessions r.place (Populating released))) c.links
     held = held_less c.quiesce c.query (holders c.sessions) (holders (slice_set c.sessions r.place (Populating released))) c.links
         (holders_less c.sessions r.place (Populating r.population) (Populating released) r.is.found r.holds refl) i.quiesce
+
     own : TicketIsOwn c.sessions r.place (Populating released)
     own n q apart found same = apart (i.tickets n r.place q r.population found r.is.found same)
+
     is : PopulationIs c.log c.query c.ticket released
     is = record {
       snapshot = was.snapshot;
@@ -258,18 +276,23 @@ read_keeps session facts c new r i = subst Invariant (sym r.effect)
   where
     was : PopulationIs c.log c.query c.ticket r.population
     was = i.populations r.place r.population r.is.found
+
     own : TicketIsOwn c.sessions r.place (Populating (one_read c r.population))
     own n q apart found same = apart (i.tickets n r.place q r.population found r.is.found same)
+
     width : ℕ
     width = length r.population.table.kinds
+
     first : ℕ
     first = 16 * r.population.extent
+
     read : r.population.read ++ next_block c r.population ≡ rows_of_blocks (rows_at c.log r.population.snapshot) r.population.obj width first (r.population.blocks + 1)
     read =
         ap (λ (rs : List PlacedRow). rs ++ next_block c r.population) was.read
         ∙ ap (λ (rs : List PlacedRow). rows_of_blocks (rows_at c.log r.population.snapshot) r.population.obj width first r.population.blocks ++ rs)
-          (sym (append-nil (next_block c r.population)))
+        (sym (append-nil (next_block c r.population)))
         ∙ sym (blocks_append (rows_at c.log r.population.snapshot) r.population.obj width first r.population.blocks 1)
+
     is : PopulationIs c.log c.query c.ticket (one_read c r.population)
     is = record {
       snapshot = was.snapshot;

@@ -51,20 +51,20 @@ noted_touches log t a e within notes = contains_filter_map (λ (x : LogEntry). t
 precise_later : (log : List LogEntry) (born low high : ℕ) (u : ColumnUnit) → low ≤ high → UnitIsPrecise log born low u → UnitIsPrecise log born high u
 precise_later log born low high u later is = record {
   marked = λ a h. let m = is.marked a h in
-    record { txn = m.txn; scn = m.scn; commits = m.commits; above = m.above; upto = up m.scn m.upto; touches = m.touches };
+      record { txn = m.txn; scn = m.scn; commits = m.commits; above = m.above; upto = up m.scn m.upto; touches = m.touches };
   all = λ h. let m = is.all h in
-    record {
-      txn = m.txn;
-      entry = m.entry;
-      within = m.within;
-      commits = m.commits;
-      above = m.above;
-      upto = up (m.entry).scn m.upto;
-      begin = m.begin;
-      begin_within = m.begin_within;
-      is_begin = m.is_begin;
-      earlier = m.earlier;
-    };
+      record {
+        txn = m.txn;
+        entry = m.entry;
+        within = m.within;
+        commits = m.commits;
+        above = m.above;
+        upto = up (m.entry).scn m.upto;
+        begin = m.begin;
+        begin_within = m.begin_within;
+        is_begin = m.is_begin;
+        earlier = m.earlier;
+      };
 }
   where
     up : (n : ℕ) → n ≤ low → n ≤ high
@@ -149,9 +149,11 @@ module _ (c : CoreState) (actor : ℕ) (new : CoreState) (r : Touches c actor ne
     where
       as_before : u.snapshot ≡ w.snapshot
       as_before = ap (λ (x : ColumnUnit). x.snapshot) marked.same
+
       by_mark : (a : Place) → (w.marked a ≡ true) ⊎ Marks r.link.items r.collected obj extent a → TouchedWithin c.log w.snapshot (limit c) a
       by_mark a (inl h) = precise.marked a h
       by_mark a (inr m) = cut_touched changes_commit a m
+
       by_whole : (w.all ≡ true) ⊎ (has_coarse r.link.items ≡ true) → CoarseWithin c.log c.born w.snapshot (limit c)
       by_whole (inl h) = precise.all h
       by_whole (inr h) = coarse_within coarses_commit h
@@ -164,7 +166,7 @@ touch_precise changes_commit coarses_commit actor facts c new r i precise = subs
         → (nat_eq (shard_of_unit obj extent) r.shard ≡ true) ⊎ (nat_eq (shard_of_unit obj extent) r.shard ≡ false) → UnitIsPrecise c.log c.born (limit c) u
     by_shard obj extent u h (inl e) =
         let was = touched_stood r.link.items r.collected obj extent (c.units obj extent) (r.units obj extent) u
-          (r.touched obj extent (eqb-true (shard_of_unit obj extent) r.shard e)) h in
+        (r.touched obj extent (eqb-true (shard_of_unit obj extent) r.shard e)) h in
         let is = i.units obj extent was.0 was.1 in
         precise_touched c actor new r i (facts c.log c.frontier i.log) obj extent was.0 u is.snapshot was.3 (precise obj extent was.0 was.1) changes_commit coarses_commit
     by_shard obj extent u h (inr e) = precise obj extent u (sym (r.others obj extent (eqb-false (shard_of_unit obj extent) r.shard e)) ∙ h)

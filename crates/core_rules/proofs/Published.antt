@@ -1,17 +1,17 @@
 -- Publish keeps the invariant, once the units are known to.
-use Rattle.std.proofs.Common.{◌≡◌, ℕ, ◌+◌, ◌<◌, ◌≤◌, Bool, true, false, cond, List, [], ◌∷◌, length, take, Option, Some, None, ◌⊎◌, inl, inr, refl, sym, ap, ◌∙◌, subst, arith, true≢false}
+use Rattle.std.proofs.Common.{◌≡◌, ℕ, ◌<◌, ◌≤◌, true, cond, List, [], ◌∷◌, length, take, Some, None, ◌⊎◌, inl, inr, refl, sym, ap, ◌∙◌, subst, arith, true≢false}
 use Rattle.std.specs.List.{count_by}
 use Rattle.std.proofs.lemmas.Bool.{cases_lt}
-use Rattle.core_rules.specs.Share.{shares, EndedWithin}
-use Rattle.core_rules.specs.State.{CoreState, Worker, Quiesce, Idle, Shared, Flushing, Stage, Unclaimed, Claimed, Finished, Link, Session, Population, Populating, At, share_of, limit, cut_through, holds_back, holders, is_finished, is_past, PassesTxn}
+use Rattle.core_rules.specs.Share.{shares}
+use Rattle.core_rules.specs.State.{CoreState, Worker, Idle, Stage, Unclaimed, Claimed, Finished, Link, Session, Population, Populating, At, share_of, limit, cut_through, holds_back, holders, is_finished, is_past}
 use Rattle.core_rules.specs.Flush.{Publishes}
 use Rattle.core_rules.specs.Parts.{QuiesceIs, IsGone, DdlIs, PartitionIs, ProgressIs}
-use Rattle.core_rules.specs.UnitParts.{PopulationIs, ScanIs}
+use Rattle.core_rules.specs.UnitParts.{PopulationIs}
 use Rattle.core_rules.specs.Invariant.{Invariant, WorkerIs, AllUnits, mined_of_all}
 use Rattle.core_rules.proofs.Lists.{Has, has_at, each_at}
 use Rattle.core_rules.proofs.Keeps.{Keeps, KeepsPart}
 use Rattle.core_rules.proofs.Items.{items_end, ends_have_items}
-use Rattle.core_rules.proofs.Crew.{WorkerAt, worker_is}
+use Rattle.core_rules.proofs.Crew.{worker_is}
 use Rattle.core_rules.proofs.Restarted.{no_items, no_claims, none_collected}
 use Rattle.core_rules.proofs.Staged.{area_gone}
 use Rattle.core_rules.proofs.Once.{count_cons}
@@ -87,15 +87,19 @@ publish_keeps units facts c new r v = subst Invariant (sym r.effect) (record {
   where
     flushing : (holders c.sessions ≡ 0) × (c.query < r.through)
     flushing = subst (λ q. QuiesceIs q c.query (holders c.sessions) c.links) r.flushing v.quiesce
+
     later : c.query ≤ r.through
     later = let b : c.query < r.through = flushing.1 in omega arith
+
     cut : limit c ≡ r.through
     cut = ap (cut_through c.query) r.flushing
+
     none_holds : (place : ℕ) (p : Population) → At c.sessions place (Populating p) → p.holds ≡ true → ⊥
     none_holds place p h k =
         let some : 1 ≤ holders c.sessions = one_holds c.sessions place (Populating p) h k in
         let none : holders c.sessions ≡ 0 = flushing.0 in
         omega arith
+
     back : (place t : ℕ) → IsGone c.log c.born r.through [] place t → IsGone c.log c.born c.query c.links place t
     back place t (inr p) = let e : None ≡ Some p.link = p.found in absurd cc
     back place t (inl e) = by_scn (cases_lt c.query e.entry.scn)
@@ -111,6 +115,7 @@ publish_keeps units facts c new r v = subst Invariant (sym r.effect) (record {
               past = finished_past place item.link.stage (each_at (λ (x : Link). is_finished x.stage ≡ true) c.links item.number item.link r.done item.found);
               of = item.has;
             })
+
     on : (place t : ℕ) → IsGone c.log c.born c.query c.links place t → IsGone c.log c.born r.through [] place t
     on place t (inl e) = inl (record {
       entry = e.entry;
@@ -128,6 +133,7 @@ publish_keeps units facts c new r v = subst Invariant (sym r.effect) (record {
           upto = subst (λ n. e.entry.scn ≤ n) cut e.upto;
           end = e.end;
         })
+
     each_worker : (n : ℕ) (w : Worker) → At c.workers n w → WorkerIs (record c { query = r.through; quiesce = Idle; links = [] }) n w
     each_worker n w h =
         let is = v.workers n w h in

@@ -1,5 +1,5 @@
 -- Each reply that an event says is the reply to the text of its command.
-use Rattle.std.proofs.Common.{◌≡◌, ℕ, suc, ◌+◌, ◌<◌, ◌≤◌, Bool, true, false, if◌then◌else◌, List, Option, Some, None, ◌⊎◌, inl, inr, refl, sym, ap, ◌∙◌, subst, arith}
+use Rattle.std.proofs.Common.{◌≡◌, ℕ, ◌+◌, ◌<◌, ◌≤◌, Bool, true, false, if◌then◌else◌, List, Option, Some, None, inl, inr, refl, sym, subst, arith}
 use Rattle.adg_base.specs.declared.log.LogEntry.{LogEntry}
 use Rattle.adg_base.specs.declared.command.Command.TheVariants as command
 use Rattle.adg_base.specs.declared.command.Select.{Select}
@@ -11,11 +11,10 @@ use Rattle.adg_model.specs.Command.{Spells}
 use Rattle.adg_model.specs.Reply.{IsReply}
 use Rattle.core_rules.specs.declared.event.Event.{Event}
 use Rattle.core_rules.specs.declared.event.Event.TheVariants as event
-use Rattle.core_rules.specs.declared.event.CoreAnswer.{CoreAnswer}
 use Rattle.core_rules.specs.declared.event.CoreAnswer.TheVariants.{NotReady, Moved, Said}
 use Rattle.core_rules.specs.State.{CoreState, Population, Scan, Session, Populating, Scanning, At}
-use Rattle.core_rules.specs.Populations.{IsSession, RefusesPopulation, population_refusal, Installs, installed_then, has_more}
-use Rattle.core_rules.specs.Scans.{RefusesScan, scan_refusal, scan_reply, EndsScan}
+use Rattle.core_rules.specs.Populations.{IsSession, population_refusal, Installs, installed_then, has_more}
+use Rattle.core_rules.specs.Scans.{scan_refusal, EndsScan}
 use Rattle.core_rules.specs.LogFacts.{LogHasFacts}
 use Rattle.core_rules.specs.Step.{Happens}
 use Rattle.core_rules.specs.Invariant.{Invariant}
@@ -51,7 +50,8 @@ scan_refused log frontier scn select text said (Some table) defined refused spel
     by_types false columns k e =
         let is : reply.WrongType scn ≡ said = let some : Some (reply.WrongType scn) ≡ Some said = e in cc in
         subst (IsReply log frontier text) is
-          (record { select = select; table = table; query = record { spells = spells; defined = defined }; columns = columns; types = k })
+        (record { select = select; table = table; query = record { spells = spells; defined = defined }; columns = columns; types = k })
+
     by_columns : (b : Bool) → has_columns select table ≡ b
         → (if b then (if has_types select table then None else Some (reply.WrongType scn)) else Some (reply.NoColumn scn)) ≡ Some said → IsReply log frontier text said
     by_columns true k e = by_types (has_types select table) k refl e
@@ -74,12 +74,16 @@ populated c session said new text i r of = by_more (has_more r.population) r.say
   where
     p : Population
     p = r.population
+
     count : ℕ
     count = installed_then p c.units
+
     same : of.1 ≡ p
     same = let e : Populating of.1 ≡ Populating p = same_session c session of.0 r.place (Populating of.1) (Populating p) of.2 r.is in cc
+
     spells : Spells text (command.Populate p.obj)
     spells = subst (λ (q : Population). Spells text (command.Populate q.obj)) same of.3
+
     by_more : (b : Bool) → Said said ≡ (if b then Moved else Said (reply.Populated p.snapshot count)) → IsReply c.log c.frontier text said
     by_more true e = let moved : Said said ≡ Moved = e in absurd cc
     by_more false e =
@@ -88,7 +92,7 @@ populated c session said new text i r of = by_more (has_more r.population) r.say
         let one_more : count ≤ p.extent + 1 = installed_most p c.units was.installed in
         let within : p.extent < p.table.extents = was.extent in
         subst (IsReply c.log c.frontier text) is
-          (record { obj = p.obj; table = p.table; spells = spells; defined = was.defined; in_memory = was.in_memory; most = omega arith })
+        (record { obj = p.obj; table = p.table; spells = spells; defined = was.defined; in_memory = was.in_memory; most = omega arith })
 
 -- A scan ends with the answer.
 scanned : (c : CoreState) (session : ℕ) (said : Reply) (new : CoreState) (text : List ℕ) → Invariant c → EndsScan c session said new
@@ -105,8 +109,10 @@ scanned c session said new text i r of = subst (IsReply c.log c.frontier text) (
   where
     s : Scan
     s = r.scan
+
     same : of.1 ≡ s
     same = let e : Scanning of.1 ≡ Scanning s = same_session c session of.0 r.place (Scanning of.1) (Scanning s) of.2 r.is in cc
+
     spells : Spells text (command.Select s.select)
     spells = subst (λ (x : Scan). Spells text (command.Select x.select)) same of.3
 

@@ -1,25 +1,25 @@
 -- Restart keeps the invariant, and the opening state meets it.
-use Rattle.std.proofs.Common.{◌≡◌, ℕ, zero, suc, ◌+◌, ◌*◌, ◌<◌, ◌≤◌, Bool, true, false, cond, List, [], ◌∷◌, ◌++◌, map, filter, length, take, drop, replicate, Option, Some, None, ◌⊎◌, inl, inr, refl, sym, ap, ap₂, ◌∙◌, subst, arith, true≢false, IsPermutation}
-use Rattle.std.specs.Prelude.{nat_lt, nat_le, count_by}
-use Rattle.std.specs.List.{Contains, AllByRecursion, filter_map, flat_map, range_with_len, cons_option}
-use Rattle.std.proofs.lemmas.Bool.{ltb-true, lt-ltb, le-leb, leb-true, ltb-false, and_parts, cases_lt}
+use Rattle.std.proofs.Common.{◌≡◌, ℕ, zero, suc, ◌+◌, ◌<◌, ◌≤◌, Bool, true, false, cond, List, [], ◌∷◌, ◌++◌, map, filter, length, take, drop, replicate, Some, None, ◌⊎◌, inl, inr, refl, sym, ap, ap₂, ◌∙◌, subst, arith, IsPermutation}
+use Rattle.std.specs.Prelude.{nat_lt, nat_le}
+use Rattle.std.specs.List.{AllByRecursion, filter_map, range_with_len}
+use Rattle.std.proofs.lemmas.Bool.{ltb-true, leb-true, ltb-false, and_parts, cases_lt}
 use Rattle.std.proofs.lemmas.List.Sorted.{IsPermutation-refl}
 use Rattle.std.proofs.lemmas.List.FromFn.{length-map-range_with_len}
 use Rattle.std.proofs.lemmas.List.{length-replicate}
 use Rattle.adg_base.specs.Address.{Place}
-use Rattle.adg_base.specs.Area.{Held, HoldsPlace, HoldsBegin}
+use Rattle.adg_base.specs.Area.{HoldsPlace, HoldsBegin}
 use Rattle.adg_base.specs.Shard.{shard_of_vector}
 use Rattle.adg_base.specs.declared.log.LogEntry.{LogEntry}
 use Rattle.adg_base.specs.declared.node.Node.{Node}
 use Rattle.adg_base.specs.declared.node.DdlNode.{DdlNode}
 use Rattle.adg_model.specs.Mined.{node_item, ddl_item}
 use Rattle.core_rules.specs.Share.{is_shared_by, share, shares, first_above, begun_above, node_of, nodes_of, ddl_of, ddl_in, NotedIn, BegunIn}
-use Rattle.core_rules.specs.State.{CoreState, Worker, Shard, Session, Free, Populating, Scanning, Population, Scan, Link, Claimed, At, share_of, limit, holds_back, holders, idle_worker, empty_shard, opening}
-use Rattle.core_rules.specs.LogFacts.{IsLog, LogFacts, LogHasFacts}
+use Rattle.core_rules.specs.State.{CoreState, Worker, Shard, Session, Free, Populating, Scanning, Link, Claimed, At, share_of, limit, holders, idle_worker, empty_shard, opening}
+use Rattle.core_rules.specs.LogFacts.{LogHasFacts}
 use Rattle.core_rules.specs.Restarts.{rewound, rewound_workers, restarted}
-use Rattle.core_rules.specs.Parts.{CountsAre, ProgressIs, AppliedAre, AreaIs, IsGone, PartitionIs, DdlIs, mined_from, is_within, flush_nodes, flush_ddl, flush_items, ItemsAre, ClaimsAre, AllCollected, ShardsAre}
+use Rattle.core_rules.specs.Parts.{AppliedAre, AreaIs, mined_from, is_within, flush_items, ItemsAre, ClaimsAre, AllCollected}
 use Rattle.core_rules.specs.Invariant.{Invariant, Precise, WorkerIs}
-use Rattle.core_rules.proofs.Lists.{Has, has, at_has, has_at, has_take, at_map_back, at_take_back, at_take, at_contains, at_replicate, at_within, at_exists, has_append_cases, has_filter_map_back, each_has, each_from, each_drop_at, filter_order, contains_take}
+use Rattle.core_rules.proofs.Lists.{Has, has, at_has, at_map_back, at_take_back, at_take, at_contains, at_replicate, at_exists, has_append_cases, has_filter_map_back, each_from, each_drop_at, filter_order}
 use Rattle.core_rules.proofs.Keeps.{Keeps, KeepsPrecise}
 use Rattle.core_rules.proofs.Shares.{node_is}
 use Rattle.core_rules.proofs.MinedEntry.{ddl_scn}
@@ -130,8 +130,8 @@ nothing_within scn n = by_test (is_within scn scn n) refl
 pub no_flush : (log : List LogEntry) (born scn : ℕ) (entries : List LogEntry) → flush_items log born scn scn entries ≡ []
 no_flush log born scn entries =
     ap₂ (λ xs ys. map node_item xs ++ map ddl_item ys)
-      (filter_none (λ (n : Node). is_within scn scn n.scn) (nodes_of log born entries) (λ n k. nothing_within scn n.scn))
-      (filter_none (λ (n : DdlNode). is_within scn scn n.scn) (ddl_in entries) (λ n k. nothing_within scn n.scn))
+    (filter_none (λ (n : Node). is_within scn scn n.scn) (nodes_of log born entries) (λ n k. nothing_within scn n.scn))
+    (filter_none (λ (n : DdlNode). is_within scn scn n.scn) (ddl_in entries) (λ n k. nothing_within scn n.scn))
 
 pub no_items : (log : List LogEntry) (born scn : ℕ) (entries : List LogEntry) → ItemsAre log born scn scn entries []
 no_items log born scn entries = record {
@@ -162,13 +162,16 @@ empty_area log born query place links entries h = record {
   where
     no_place : (t : ℕ) (a : Place) → HoldsPlace [] t a → ⊥
     no_place t a k = has [] k.held k.within
+
     no_begin : (t : ℕ) → HoldsBegin [] t → ⊥
     no_begin t k = has [] k.held k.within
+
     not_noted : (t : ℕ) (a : Place) → NotedIn log born entries t a → ⊥
     not_noted t a k =
         let upto : k.entry.scn ≤ born = h k.entry (has entries k.entry k.within) in
         let above : born < k.entry.scn = k.above in
         omega arith
+
     not_begun : (t : ℕ) → BegunIn born entries t → ⊥
     not_begun t k =
         let upto : k.entry.scn ≤ born = h k.entry (has entries k.entry k.within) in
@@ -211,6 +214,7 @@ rewound_mined query workers log (suc n) a e h =
   where
     later : List LogEntry
     later = mined_from workers (a + 1) log (map (λ (w : Worker). w.mined) (map (λ m. rewound query (share workers m log)) (range_with_len (a + 1) n)))
+
     either : (Has later e → e.scn ≤ query) → Has (take (first_above query (share workers a log)) (share workers a log)) e ⊎ Has later e → e.scn ≤ query
     either ih (inl k) = taken_upto query (share workers a log) e k
     either ih (inr k) = ih k
@@ -235,17 +239,22 @@ rewound_is c facts v place h = record {
   where
     entries : List LogEntry
     entries = share_of c place
+
     was : (w : Worker) × At c.workers place w
     was = at_exists c.workers place h
+
     was_is : WorkerIs c place was.0
     was_is = v.workers place was.0 was.1
+
     applied : AppliedAre (take (first_above c.query entries) entries) c.shards
     applied e k n s own at = was_is.applied e (at_contains (take was.0.applied entries) there.0 e (at_take entries was.0.applied there.0 e before back.0)) n s own at
       where
         there : (i : ℕ) × At (take (first_above c.query entries) entries) i e
         there = at_has (take (first_above c.query entries) entries) e (has (take (first_above c.query entries) entries) e k)
+
         back : At entries there.0 e × (there.0 < first_above c.query entries)
         back = at_take_back entries (first_above c.query entries) there.0 e there.1
+
         mined : (there.0 < was.0.mined) ⊎ (was.0.mined ≤ there.0) → there.0 < was.0.applied
         mined (inl l) = let b : was.0.mined ≤ was.0.applied = was_is.counts.behind in omega arith
         mined (inr l) =
@@ -254,6 +263,7 @@ rewound_is c facts v place h = record {
             let reached : limit c ≤ was.0.progress = was_is.progress.reached in
             let published : c.query ≤ limit c = v.numbers.published in
             absurd (omega arith)
+
         before : there.0 < was.0.applied
         before = mined (cases_lt there.0 was.0.mined)
 
@@ -287,14 +297,16 @@ restart_keeps facts c new r v = subst Invariant (sym r) (record {
   where
     same : length (rewound_workers c.query c.log (length c.workers)) ≡ length c.workers
     same = length-map-range_with_len (λ w. rewound c.query (share (length c.workers) w c.log)) 0 (length c.workers)
+
     each_worker : (n : ℕ) (w : Worker) → At (rewound_workers c.query c.log (length c.workers)) n w → WorkerIs (restarted c) n w
     each_worker n w h =
         let at = rewound_at c.query c.log (length c.workers) n w h in
         worker_is (restarted c) (length c.workers) n w same
-          (subst (λ x. WorkerAt (length c.workers) c.query c.frontier c.log c.query c.query [] c.shards n x) (sym at.0) (rewound_is c facts v n at.1))
+        (subst (λ x. WorkerAt (length c.workers) c.query c.frontier c.log c.query c.query [] c.shards n x) (sym at.0) (rewound_is c facts v n at.1))
+
     no_ddl_left : filter (λ (n : DdlNode). nat_lt c.query n.scn) (ddl_in (mined_from (length (rewound_workers c.query c.log (length c.workers))) 0 c.log (map (λ (w : Worker). w.mined) (rewound_workers c.query c.log (length c.workers))))) ≡ []
     no_ddl_left = subst (λ m. filter (λ (n : DdlNode). nat_lt c.query n.scn) (ddl_in (mined_from m 0 c.log (map (λ (w : Worker). w.mined) (rewound_workers c.query c.log (length c.workers))))) ≡ []) (sym same)
-      (no_ddl c.query (mined_from (length c.workers) 0 c.log (map (λ (w : Worker). w.mined) (rewound_workers c.query c.log (length c.workers)))) (rewound_mined c.query (length c.workers) c.log (length c.workers) 0))
+        (no_ddl c.query (mined_from (length c.workers) 0 c.log (map (λ (w : Worker). w.mined) (rewound_workers c.query c.log (length c.workers)))) (rewound_mined c.query (length c.workers) c.log (length c.workers) 0))
 
 pub restart_precise : KeepsPrecise (λ c new. new ≡ restarted c)
 restart_precise facts c new r v p = subst Precise (sym r) (λ obj extent u h. let e : None ≡ Some u = h in absurd cc)
@@ -329,10 +341,10 @@ opening_meets workers sessions h = record {
   };
   manned = let e : length (replicate workers idle_worker) ≡ workers = length-replicate workers idle_worker in omega arith;
   workers = λ n w k. worker_is (opening workers sessions) workers n w (length-replicate workers idle_worker)
-    (subst (λ x. WorkerAt workers 0 0 [] 0 0 [] (replicate 64 empty_shard) n x) (sym (at_replicate workers n w idle_worker k)) (opened_worker (opening workers sessions) workers n (replicate 64 empty_shard)));
+      (subst (λ x. WorkerAt workers 0 0 [] 0 0 [] (replicate 64 empty_shard) n x) (sym (at_replicate workers n w idle_worker k)) (opened_worker (opening workers sessions) workers n (replicate 64 empty_shard)));
   ddl = record {
     same = subst (λ es. IsPermutation (filter (λ (n : DdlNode). nat_lt 0 n.scn) (ddl_in es)) [])
-      (sym (nothing_mined (length (replicate workers idle_worker)) 0 (map (λ (w : Worker). w.mined) (replicate workers idle_worker)))) (IsPermutation-refl []);
+        (sym (nothing_mined (length (replicate workers idle_worker)) 0 (map (λ (w : Worker). w.mined) (replicate workers idle_worker)))) (IsPermutation-refl []);
     order = tt;
   };
   flush = record {

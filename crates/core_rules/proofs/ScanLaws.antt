@@ -1,5 +1,5 @@
 -- A finished scan has the meaning of its SELECT.
-use Rattle.std.proofs.Common.{◌≡◌, ℕ, ◌+◌, ◌*◌, ◌≤◌, List, map, length, sym, ap, ◌∙◌, arith}
+use Rattle.std.proofs.Common.{◌≡◌, ℕ, ◌*◌, ◌≤◌, List, length, sym, ap, ◌∙◌, arith}
 use Rattle.std.specs.List.{filter_map}
 use Rattle.std.proofs.lemmas.List.{length-map}
 use Rattle.adg_base.specs.declared.value.Value.{Value}
@@ -27,7 +27,7 @@ finished_scans_have_meaning c place s i found whole =
     record {
       answer = ap (select_lines s.select) rows;
       split =
-        is.split
-        ∙ ap (λ (rs : List (List Value)). length rs) rows
-        ∙ length-map (object_rows (rows_at c.log s.scn) s.select.obj s.table.extents) (padded (length s.table.kinds));
+          is.split
+          ∙ ap (λ (rs : List (List Value)). length rs) rows
+          ∙ length-map (object_rows (rows_at c.log s.scn) s.select.obj s.table.extents) (padded (length s.table.kinds));
     }

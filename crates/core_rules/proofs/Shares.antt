@@ -1,7 +1,7 @@
 -- Lemmas on shares, and on what the entries of a share are mined as.
-use Rattle.std.proofs.Common.{◌≡◌, ℕ, ◌+◌, ◌<◌, ◌≤◌, ◌%◌, Bool, true, false, cond, List, [], ◌∷◌, ◌++◌, filter, Option, Some, None, ◌⊎◌, inl, inr, refl, sym, ap, ◌∙◌, subst, arith, true≢false, mod-lt}
+use Rattle.std.proofs.Common.{◌≡◌, ℕ, ◌+◌, ◌<◌, ◌%◌, Bool, true, false, cond, List, Some, None, refl, sym, ap, ◌∙◌, subst, arith, true≢false, mod-lt}
 use Rattle.std.specs.Prelude.{◌==◌, ◌&&◌, nat_lt}
-use Rattle.std.specs.List.{Contains, list_any, filter_map, flat_map, range_with_len}
+use Rattle.std.specs.List.{Contains, range_with_len}
 use Rattle.std.proofs.lemmas.Bool.{eqb-true, eq-eqb, ltb-true, lt-ltb, and_parts, and_from}
 use Rattle.adg_base.specs.Address.{Place, place}
 use Rattle.adg_base.specs.Shard.{shard_of_block, shard_of_txn, shard_of_object, shard_of_vector}
@@ -15,7 +15,7 @@ use Rattle.adg_model.specs.declared.mined.Mined.TheVariants as mined
 use Rattle.adg_model.specs.Database.{is_in_memory, table_at, touched_by}
 use Rattle.adg_model.specs.Mined.{mined_of, mined_by, mined_at}
 use Rattle.core_rules.specs.Share.{is_shared_by, share, shares, begins, ends, redefines, begun_above, node_by, node_of, ddl_by, ddl_of}
-use Rattle.core_rules.proofs.Lists.{Has, has, contains, has_filter, has_filter_back, contains_filter, contains_filter_back, has_flat_map, has_flat_map_back, has_range, has_range_back, any_contains, any_contains_back}
+use Rattle.core_rules.proofs.Lists.{Has, has, contains, contains_filter, contains_filter_back, has_flat_map, has_flat_map_back, has_range, any_contains, any_contains_back}
 
 -- an entry of a share is one of the log, and one of a shard is in the share of the shard's worker
 pub share_log : (workers w : ℕ) (log : List LogEntry) (e : LogEntry) → Contains (share workers w log) e → Contains log e

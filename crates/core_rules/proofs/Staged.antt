@@ -1,18 +1,16 @@
 -- What an event that sets the stage of one worklink has to show so that the invariant is kept.
-use Rattle.std.proofs.Common.{◌≡◌, ℕ, ◌+◌, ◌<◌, ◌≤◌, Bool, true, false, List, [], map, length, take, Option, Some, None, ◌⊎◌, inl, inr, refl, sym, ap, ◌∙◌, subst, arith, true≢false}
+use Rattle.std.proofs.Common.{◌≡◌, ℕ, ◌+◌, ◌<◌, ◌≤◌, true, false, List, map, length, Some, None, ◌⊎◌, inl, inr, refl, sym, ap, ◌∙◌, subst, arith}
 use Rattle.std.specs.Prelude.{◌==◌, slice_set}
 use Rattle.std.proofs.lemmas.Bool.{cases_eq}
-use Rattle.adg_base.specs.Address.{Place}
-use Rattle.adg_base.specs.Area.{Held, HoldsPlace, HoldsBegin}
+use Rattle.adg_base.specs.Area.{Held}
 use Rattle.adg_base.specs.declared.log.LogEntry.{LogEntry}
-use Rattle.adg_base.specs.declared.node.Item.{Item}
 use Rattle.core_rules.specs.Share.{shares}
-use Rattle.core_rules.specs.State.{CoreState, Worker, Quiesce, Idle, Shared, Flushing, Collected, Stage, Unclaimed, Claimed, Finished, Link, Units, Population, Populating, At, limit, holders, is_unclaimed, is_held_by, is_past, has_txn, PassesTxn}
+use Rattle.core_rules.specs.State.{CoreState, Worker, Quiesce, Idle, Shared, Flushing, Collected, Stage, Claimed, Link, Units, Population, Populating, At, limit, holders, is_unclaimed, is_held_by, is_past, has_txn, PassesTxn}
 use Rattle.core_rules.specs.Flush.{with_stage}
 use Rattle.core_rules.specs.Parts.{QuiesceIs, AreaIs, IsGone, DdlIs, mined_from, ItemsAre, items_of, ClaimsAre, stages_of, CollectedAre, AllCollected}
 use Rattle.core_rules.specs.UnitParts.{HasItsUnits}
 use Rattle.core_rules.specs.Invariant.{Invariant, AllUnits}
-use Rattle.core_rules.proofs.Lists.{at_set_cases, at_set_kept, at_set_same, at_same, at_within, at_map, at_map_back, map_set, map_set_same, not_both}
+use Rattle.core_rules.proofs.Lists.{at_set_cases, at_set_kept, at_set_same, at_same, at_within, at_map, map_set, map_set_same, not_both}
 use Rattle.core_rules.proofs.UnitsPassed.{staged, txn_passes}
 use Rattle.core_rules.proofs.Crew.{WorkerAt, worker_is}
 
@@ -65,6 +63,7 @@ area_staged log born query links number link stage place entries area found same
     back : (t : ℕ) → IsGone log born query (staged links number link stage) place t → IsGone log born query links place t
     back t (inl e) = inl e
     back t (inr p) = inr (passes_back links number link stage place t found (λ k. sym same ∙ k) p)
+
     on : (t : ℕ) → IsGone log born query links place t → IsGone log born query (staged links number link stage) place t
     on t (inl e) = inl e
     on t (inr p) = inr (passes_on links number link stage place t found (λ k. same ∙ k) p)
@@ -95,6 +94,7 @@ claims_staged workers stages number stage fits is = record { alone = alone; last
         either (inl p) (inr q) = absurd (fits.alone actor j y (subst (λ s. is_held_by actor s ≡ true) p.1 h) q.0 q.1 k)
         either (inr p) (inl q) = absurd (fits.alone actor i x (subst (λ s. is_held_by actor s ≡ true) q.1 k) p.0 p.1 h)
         either (inr p) (inr q) = is.alone i j x y actor p.1 q.1 h k
+
     last : (i j : ℕ) (x y : Stage) → i < j → At (slice_set stages number stage) i x → At (slice_set stages number stage) j y → is_unclaimed x ≡ true → is_unclaimed y ≡ true
     last i j x y l a b h = either (at_set_cases stages number i x stage a) (at_set_cases stages number j y stage b)
       where
@@ -102,6 +102,7 @@ claims_staged workers stages number stage fits is = record { alone = alone; last
         either (inl p) q = absurd (not_both (is_unclaimed stage) (subst (λ s. is_unclaimed s ≡ true) p.1 h) fits.claimed)
         either (inr p) (inl q) = absurd (fits.earlier i x (subst (λ n. i < n) q.0 l) p.1 h)
         either (inr p) (inr q) = is.last i j x y l p.1 q.1 h
+
     bounds : (i actor cursor : ℕ) (collected : List Collected) → At (slice_set stages number stage) i (Claimed actor cursor collected) → (actor ≤ workers) × (cursor ≤ workers + 32)
     bounds i actor cursor collected a = either (at_set_cases stages number i (Claimed actor cursor collected) stage a)
       where
@@ -127,10 +128,13 @@ held_fits c v number link actor cursor later collected more found h l = record {
   where
     at : At (stages_of c.links) number link.stage
     at = at_map (λ (x : Link). x.stage) c.links number link found
+
     held : (a : ℕ) → (actor == a) ≡ true → is_held_by a link.stage ≡ true
     held a e = ap (is_held_by a) h ∙ e
+
     alone : (a j : ℕ) (y : Stage) → is_held_by a (Claimed actor later more) ≡ true → (j ≡ number → ⊥) → At (stages_of c.links) j y → is_held_by a y ≡ true → ⊥
     alone a j y e d b k = d (v.flush.claims.alone j number y link.stage a b at k (held a e))
+
     bounds : (a k : ℕ) (xs : List Collected) → Claimed actor later more ≡ Claimed a k xs → (a ≤ length c.workers) × (k ≤ length c.workers + 32)
     bounds a k xs e =
         let old = v.flush.claims.bounds number actor cursor collected (subst (λ s. At (stages_of c.links) number s) h at) in
@@ -162,12 +166,12 @@ staged_keeps c number link stage workers units v is units_are = record {
   manned = subst (λ n. 0 < n) (sym is.as_many) v.manned;
   workers = λ n w h. worker_is (with_staged c number link stage workers units) (length c.workers) n w is.as_many (is.each n w h);
   ddl = subst (λ n. DdlIs (limit c) (mined_from n 0 c.log (map (λ (w : Worker). w.mined) workers)) c.ddl) (sym is.as_many)
-    (subst (λ ns. DdlIs (limit c) (mined_from (length c.workers) 0 c.log ns) c.ddl) (sym is.mined) v.ddl);
+      (subst (λ ns. DdlIs (limit c) (mined_from (length c.workers) 0 c.log ns) c.ddl) (sym is.mined) v.ddl);
   flush = record {
     items = subst (λ n. ItemsAre c.log c.born c.query (limit c) (shares n c.log) (items_of (staged c.links number link stage))) (sym is.as_many)
-      (subst (λ parts. ItemsAre c.log c.born c.query (limit c) (shares (length c.workers) c.log) parts) (sym same_items) v.flush.items);
+        (subst (λ parts. ItemsAre c.log c.born c.query (limit c) (shares (length c.workers) c.log) parts) (sym same_items) v.flush.items);
     claims = subst (λ n. ClaimsAre n (stages_of (staged c.links number link stage))) (sym is.as_many)
-      (subst (λ stages. ClaimsAre (length c.workers) stages) (sym set_stage) (claims_staged (length c.workers) (stages_of c.links) number stage is.fits v.flush.claims));
+        (subst (λ stages. ClaimsAre (length c.workers) stages) (sym set_stage) (claims_staged (length c.workers) (stages_of c.links) number stage is.fits v.flush.claims));
     collected = subst (λ n. AllCollected c.log c.born n (staged c.links number link stage)) (sym is.as_many) collected;
   };
   units = units_are;
@@ -179,13 +183,15 @@ staged_keeps c number link stage workers units v is units_are = record {
   where
     same_items : items_of (staged c.links number link stage) ≡ items_of c.links
     same_items = map_set_same (λ (l : Link). l.items) c.links number link (record link { stage = stage }) is.found refl
+
     set_stage : stages_of (staged c.links number link stage) ≡ slice_set (stages_of c.links) number stage
     set_stage = map_set (λ (l : Link). l.stage) c.links number (record link { stage = stage })
+
     collected : AllCollected c.log c.born (length c.workers) (staged c.links number link stage)
     collected n l actor cursor lists at h = either (at_set_cases c.links number n l (record link { stage = stage }) at)
       where
         either : ((n ≡ number) × (l ≡ record link { stage = stage })) ⊎ ((n ≡ number → ⊥) × At c.links n l) → CollectedAre c.log c.born (length c.workers) l.items cursor lists
         either (inl p) =
             subst (λ items. CollectedAre c.log c.born (length c.workers) items cursor lists) (sym (ap (λ (x : Link). x.items) p.1))
-              (is.collected actor cursor lists (sym (ap (λ (x : Link). x.stage) p.1) ∙ h))
+            (is.collected actor cursor lists (sym (ap (λ (x : Link). x.stage) p.1) ∙ h))
         either (inr p) = v.flush.collected n l actor cursor lists p.1 h

@@ -82,7 +82,7 @@ pub unit_staged : (c : CoreState) (number : ℕ) (link : Link) (stage : Stage) (
     → UnitIs c.log c.query c.ticket (staged c.links number link stage) place obj extent u
 unit_staged c number link stage obj extent place u found back =
     unit_kept c.log c.query c.ticket c.links (staged c.links number link stage) place place obj extent u
-      (λ t. txn_passed c.links number link stage place t found back) (drop_passed c.links number link stage place obj found back)
+    (λ t. txn_passed c.links number link stage place t found back) (drop_passed c.links number link stage place obj found back)
 
 -- An unclaimed worklink passes no place.
 none_pass : (parts : List (List Item)) (n place : ℕ) (l : Link) → At (map unclaimed parts) n l → is_past place l.stage ≡ true → ⊥
@@ -93,15 +93,15 @@ none_pass parts n place l found past =
 pub begin_flush_units : (through : ℕ) → KeepsPart AllUnits (λ c new. BeginsFlush c through new)
 begin_flush_units through facts c new r i = subst AllUnits (sym r.effect) (λ obj extent u h.
     unit_kept c.log c.query c.ticket c.links (map unclaimed r.parts) (unit_place c obj extent) _ obj extent u
-      (λ t p. absurd (none_pass r.parts p.number _ p.link p.found p.past))
-      (λ p. absurd (none_pass r.parts p.number _ p.link p.found p.past))
-      (i.units obj extent u h))
+    (λ t p. absurd (none_pass r.parts p.number _ p.link p.found p.past))
+    (λ p. absurd (none_pass r.parts p.number _ p.link p.found p.past))
+    (i.units obj extent u h))
 
 pub claim_units : (actor : ℕ) → KeepsPart AllUnits (λ c new. Claims c actor new)
 claim_units actor facts c new r i = subst AllUnits (sym r.effect) (λ obj extent u h.
     unit_staged c r.number r.link (Claimed actor 0 []) obj extent (unit_place c obj extent) u r.first.found
-      (λ past. absurd (at_start (unit_place c obj extent) past))
-      (i.units obj extent u h))
+    (λ past. absurd (at_start (unit_place c obj extent) past))
+    (i.units obj extent u h))
   where
     at_start : (place : ℕ) → nat_lt place 0 ≡ true → ⊥
     at_start place past = let l : place < 0 = ltb-true place 0 past in absurd (omega arith)
@@ -110,10 +110,10 @@ claim_units actor facts c new r i = subst AllUnits (sym r.effect) (λ obj extent
 pub collect_units : (actor : ℕ) → KeepsPart AllUnits (λ c new. Collects c actor new)
 collect_units actor facts c new r i = subst AllUnits (sym r.effect) (λ obj extent u h.
     subst (λ (n : ℕ). UnitIs c.log c.query c.ticket (staged c.links r.number r.link (Claimed actor (r.cursor + 1) r.more)) (n + shard_of_unit obj extent) obj extent u)
-      (sym (length-set c.workers r.cursor (record r.was { area = r.area })))
-      (unit_staged c r.number r.link (Claimed actor (r.cursor + 1) r.more) obj extent (unit_place c obj extent) u r.has.found
-        (λ past. absurd (behind (shard_of_unit obj extent) past))
-        (i.units obj extent u h)))
+    (sym (length-set c.workers r.cursor (record r.was { area = r.area })))
+    (unit_staged c r.number r.link (Claimed actor (r.cursor + 1) r.more) obj extent (unit_place c obj extent) u r.has.found
+    (λ past. absurd (behind (shard_of_unit obj extent) past))
+    (i.units obj extent u h)))
   where
     behind : (shard : ℕ) → nat_lt (length c.workers + shard) (r.cursor + 1) ≡ true → ⊥
     behind shard past =
@@ -129,8 +129,8 @@ unit_shard_below obj extent = omega arith
 pub finish_units : (actor : ℕ) → KeepsPart AllUnits (λ c new. Finishes c actor new)
 finish_units actor facts c new r i = subst AllUnits (sym r.effect) (λ obj extent u h.
     unit_staged c r.number r.link Finished obj extent (unit_place c obj extent) u r.has.found
-      (λ past. passed (shard_of_unit obj extent) (unit_shard_below obj extent))
-      (i.units obj extent u h))
+    (λ past. passed (shard_of_unit obj extent) (unit_shard_below obj extent))
+    (i.units obj extent u h))
   where
     passed : (shard : ℕ) → shard < 32 → is_past (length c.workers + shard) r.link.stage ≡ true
     passed shard low =

@@ -72,8 +72,10 @@ module _ (c new : CoreState) (r : Publishes c new) (i : Invariant c) where
     where
       up : u.snapshot ≤ c.query → c.query ≤ r.through → u.snapshot ≤ r.through
       up low high = omega arith
+
       no_element_at : (number : ℕ) (link : Link) → At [] number link → ⊥
       no_element_at number link found = let e : None ≡ Some link = found in absurd cc
+
       upto : (t scn : ℕ) → Counts r.through [] place t scn → scn ≤ r.through
       upto t scn (inl l) = l
       upto t scn (inr p) = absurd (no_element_at p.number p.link p.found)

@@ -42,9 +42,10 @@ touch_shard t a EndThread h = let e : None ≡ Some a = h in absurd cc
 entry_shared : (workers shard : ℕ) (log : List LogEntry) (e : LogEntry) → 0 < workers → Contains log e → shard_of_vector e.vector ≡ Some shard
     → (shard % workers < workers) × Contains (share workers (shard % workers) log) e
 entry_shared workers shard log e manned within of = (
-    mod_below shard workers manned,
-    contains_filter (λ (x : LogEntry). is_shared_by workers (shard % workers) (shard_of_vector x.vector)) log e within
-      (ap (is_shared_by workers (shard % workers)) of ∙ eq-eqb (shard % workers) (shard % workers) refl))
+  mod_below shard workers manned,
+  contains_filter (λ (x : LogEntry). is_shared_by workers (shard % workers) (shard_of_vector x.vector)) log e within
+      (ap (is_shared_by workers (shard % workers)) of ∙ eq-eqb (shard % workers) (shard % workers) refl),
+)
 
 -- The entries of a transaction that began above an SCN lie above it.
 touch_above : (c : CoreState) (t : ℕ) (a : Place) (e : LogEntry) → LogFacts c.log c.frontier → begun_above c.log c.born t ≡ true → Contains c.log e
@@ -114,7 +115,7 @@ module _ (have : CommitsHaveItems) (every : LogHasFacts) (c : CoreState) (actor 
   -- An address of the extent is one of the unit's object.
   in_memory : (a : Place) → IsInExtent obj extent a → IsInMemory c.log a.obj w.snapshot
   in_memory a within = subst (λ (o : ℕ). IsInMemory c.log o w.snapshot) (sym within.object)
-    (record { table = is.built.table; defined = is.built.defined; flag = is.built.in_memory })
+      (record { table = is.built.table; defined = is.built.defined; flag = is.built.in_memory })
 
   unchanged : (a : Place) (high : ℕ) → IsInExtent obj extent a → NotRedefined c.log obj w.snapshot high → NotRedefined c.log a.obj w.snapshot high
   unchanged a high within same = subst (λ (o : ℕ). NotRedefined c.log o w.snapshot high) (sym within.object) same
@@ -153,7 +154,7 @@ module _ (have : CommitsHaveItems) (every : LogHasFacts) (c : CoreState) (actor 
 
   built : UnitIsBuilt c.log obj extent u
   built = subst (λ (x : ColumnUnit). UnitIsBuilt c.log obj extent x) (sym marked.same)
-    (record { table = is.built.table; defined = is.built.defined; in_memory = is.built.in_memory; within = is.built.within; columns = is.built.columns })
+      (record { table = is.built.table; defined = is.built.defined; in_memory = is.built.in_memory; within = is.built.within; columns = is.built.columns })
 
   -- What counts counted before, or is of the worklink.
   covered : (t scn : ℕ) → CommitsAt c.log t scn → u.snapshot < scn → Counts c.query (links_after c actor new r) (unit_place c obj extent) t scn
@@ -162,13 +163,16 @@ module _ (have : CommitsHaveItems) (every : LogHasFacts) (c : CoreState) (actor 
     where
       above_before : w.snapshot < scn
       above_before = subst (λ (n : ℕ). n < scn) as_before above
+
       same_before : NotRedefined c.log obj w.snapshot scn
       same_before = subst (λ (n : ℕ). NotRedefined c.log obj n scn) as_before same
+
       by_pass : PassesTxn c.links (unit_place c obj extent) t
           ⊎ ((is_past (unit_place c obj extent) (Claimed actor (r.cursor + 1) r.collected) ≡ true) × (has_txn t r.link.items ≡ true)) → IsCovered c.log t obj extent u
       by_pass (inl q) = covered_more t (is.covered t scn commit above_before (inr q) same_before)
       by_pass (inr q) = commit_covered t commit.entry commit.flag commit.within commit.commits
-        (subst (λ (n : ℕ). NotRedefined c.log obj w.snapshot n) (sym commit.at) same_before) q.1
+          (subst (λ (n : ℕ). NotRedefined c.log obj w.snapshot n) (sym commit.at) same_before) q.1
+
       by_count : Counts c.query (links_after c actor new r) (unit_place c obj extent) t scn → IsCovered c.log t obj extent u
       by_count (inl l) = covered_more t (is.covered t scn commit above_before (inl l) same_before)
       by_count (inr p) =
@@ -215,11 +219,11 @@ touch_units have actor every c new r i = subst AllUnits (sym r.effect)
         → UnitIs c.log c.query c.ticket (links_after c actor new r) (unit_place c obj extent) obj extent u
     by_shard obj extent u h (inl e) =
         let was = touched_stood r.link.items r.collected obj extent (c.units obj extent) (r.units obj extent) u
-          (r.touched obj extent (eqb-true (shard_of_unit obj extent) r.shard e)) h in
+        (r.touched obj extent (eqb-true (shard_of_unit obj extent) r.shard e)) h in
         unit_touched have every c actor new r i obj extent was.0 u (i.units obj extent was.0 was.1) was.3 was.2
     by_shard obj extent u h (inr e) =
         let apart = eqb-false (shard_of_unit obj extent) r.shard e in
         unit_staged c r.number r.link (Claimed actor (r.cursor + 1) r.collected) obj extent (unit_place c obj extent) u r.has.found
-          (λ past. subst (λ (s : Stage). is_past (unit_place c obj extent) s ≡ true) (sym r.has.stage)
-            (passed_before (length c.workers) (shard_of_unit obj extent) r.shard r.cursor r.at apart past))
-          (i.units obj extent u (sym (r.others obj extent apart) ∙ h))
+        (λ past. subst (λ (s : Stage). is_past (unit_place c obj extent) s ≡ true) (sym r.has.stage)
+        (passed_before (length c.workers) (shard_of_unit obj extent) r.shard r.cursor r.at apart past))
+        (i.units obj extent u (sym (r.others obj extent apart) ∙ h))

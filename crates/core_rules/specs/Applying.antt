@@ -1,6 +1,6 @@
 -- The events Apply, Mine and Raise of a worker, and the receiving of redo: of each, when it can happen, and what
 -- it makes of the state.
-use Rattle.std.specs.Prelude.{◌≡◌, ℕ, ◌+◌, ◌<◌, ◌≤◌, max, nat_le, Bool, true, false, if◌then◌else◌, List, [], ◌∷◌, ◌++◌, length, drop, slice_set, Option, Some, None, option_to_list, ◌⊎◌}
+use Rattle.std.specs.Prelude.{◌≡◌, ℕ, ◌+◌, ◌<◌, ◌≤◌, max, nat_le, Bool, if◌then◌else◌, List, [], ◌∷◌, ◌++◌, length, drop, slice_set, Option, Some, None, option_to_list, ◌⊎◌}
 use Rattle.std.specs.List.{AllByRecursion}
 use Rattle.adg_base.specs.Address.{Place}
 use Rattle.adg_base.specs.Shard.{shard_of_vector}
@@ -14,7 +14,6 @@ use Rattle.adg_model.specs.declared.mined.Mined.{Mined}
 use Rattle.adg_model.specs.declared.mined.Mined.TheVariants as mined
 use Rattle.adg_model.specs.Mined.{mined_of}
 use Rattle.adg_model.specs.Sound.{IsContinuation}
-use Rattle.core_rules.specs.Share.{share}
 use Rattle.core_rules.specs.State.{CoreState, Worker, Shard, At, share_of, holds_begin}
 
 -- a worker can apply where an entry of its share is not applied

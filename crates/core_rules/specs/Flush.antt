@@ -1,16 +1,15 @@
 -- The events of a flush: BeginFlush, Claim, Collect, Touch, Done and Publish.
-use Rattle.std.specs.Prelude.{◌≡◌, ℕ, ◌+◌, ◌<◌, ◌≤◌, nat_lt, nat_le, not, Bool, true, false, ◌||◌, List, [], ◌∷◌, ◌++◌, length, map, filter, slice_set, Option, Some, None, ◌⊎◌}
+use Rattle.std.specs.Prelude.{◌≡◌, ℕ, ◌+◌, ◌<◌, ◌≤◌, nat_lt, nat_le, true, false, ◌||◌, List, [], ◌∷◌, ◌++◌, length, map, filter, slice_set, Option, Some, None, ◌⊎◌}
 use Rattle.std.specs.List.{AllByRecursion, list_any, flat_map}
 use Rattle.std.specs.List.Sorted.{IsPermutation, IsNonDecreasingBy}
 use Rattle.adg_base.specs.Address.{Place}
 use Rattle.adg_base.specs.Area.{Held, HoldsPlace, HoldsBegin}
 use Rattle.adg_base.specs.Shard.{shard_of_unit}
 use Rattle.adg_base.specs.declared.node.Node.{Node}
-use Rattle.adg_base.specs.declared.node.DdlNode.{DdlNode}
 use Rattle.adg_base.specs.declared.node.Item.{Item}
 use Rattle.adg_model.specs.Mined.{node_item, ddl_item}
 use Rattle.core_rules.specs.Extents.{IsInExtent}
-use Rattle.core_rules.specs.State.{CoreState, Worker, Quiesce, Idle, Flushing, Collected, Stage, Unclaimed, Claimed, Finished, Link, ColumnUnit, Units, At, is_flushing, is_unclaimed, is_finished, is_held_by, has_txn, has_change, has_coarse, has_drop, HasCollected}
+use Rattle.core_rules.specs.State.{CoreState, Worker, Idle, Flushing, Collected, Stage, Unclaimed, Claimed, Finished, Link, ColumnUnit, Units, At, is_flushing, is_unclaimed, is_finished, is_held_by, has_txn, has_change, has_coarse, has_drop, HasCollected}
 
 -- A flush up to an SCN can begin where nobody keeps publication back, the SCN is above the QuerySCN, and all
 -- workers have come to it.

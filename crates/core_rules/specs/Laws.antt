@@ -1,5 +1,5 @@
 -- The laws of the core, each the promise of a function that does nothing.
-use Rattle.std.specs.Prelude.{◌≡◌, ℕ, ◌+◌, ◌*◌, ◌<◌, ◌≤◌, Bool, true, false, List, length, map, count_by, Some, ◌⊎◌}
+use Rattle.std.specs.Prelude.{◌≡◌, ℕ, ◌+◌, ◌*◌, ◌<◌, ◌≤◌, true, List, length, map, count_by, Some, ◌⊎◌}
 use Rattle.std.specs.List.{Contains, AllByRecursion}
 use Rattle.adg_base.specs.Address.{Place}
 use Rattle.adg_base.specs.Area.{HoldsPlace, HoldsBegin}
@@ -19,7 +19,7 @@ use Rattle.core_rules.specs.declared.event.CoreAnswer.{CoreAnswer}
 use Rattle.core_rules.specs.declared.event.CoreAnswer.TheVariants.{NotReady, Moved, Said}
 use Rattle.core_rules.specs.Share.{ends, begun_above, CommitsAt}
 use Rattle.core_rules.specs.Extents.{IsInExtent}
-use Rattle.core_rules.specs.State.{CoreState, Worker, Shard, ColumnUnit, Population, Scan, Session, Populating, Scanning, Idle, Flushing, At, share_of, limit, is_unclaimed, is_finished, holds_begin}
+use Rattle.core_rules.specs.State.{CoreState, Worker, Shard, ColumnUnit, Population, Scan, Populating, Scanning, Idle, Flushing, At, share_of, limit, is_unclaimed, is_finished, holds_begin}
 use Rattle.core_rules.specs.Applying.{Receives}
 use Rattle.core_rules.specs.Flush.{Publishes}
 use Rattle.core_rules.specs.Populations.{IsSession}

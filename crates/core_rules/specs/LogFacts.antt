@@ -1,5 +1,5 @@
 -- A log up to a frontier, and the facts of it that the invariant of the core rests on.
-use Rattle.std.specs.Prelude.{◌≡◌, ℕ, ◌<◌, ◌≤◌, Bool, true, false, List, Option, Some, None, ◌⊎◌}
+use Rattle.std.specs.Prelude.{◌≡◌, ℕ, ◌<◌, ◌≤◌, Bool, true, List, Some}
 use Rattle.std.specs.List.{Contains}
 use Rattle.adg_base.specs.Address.{Place}
 use Rattle.adg_base.specs.declared.vector.Vector.TheVariants.{Commit}

@@ -5,7 +5,7 @@ use Rattle.adg_base.specs.declared.answer.Reply.{Reply}
 use Rattle.adg_base.specs.declared.answer.Reply.TheVariants as reply
 use Rattle.adg_model.specs.Database.{Table, rows_at, table_at}
 use Rattle.core_rules.specs.declared.event.CoreAnswer.{CoreAnswer}
-use Rattle.core_rules.specs.declared.event.CoreAnswer.TheVariants.{NotReady, Moved, Said}
+use Rattle.core_rules.specs.declared.event.CoreAnswer.TheVariants.{Moved, Said}
 use Rattle.core_rules.specs.Extents.{block_rows}
 use Rattle.core_rules.specs.State.{CoreState, ColumnUnit, Units, Population, Session, Free, Populating, Scanning, At, is_flushing, held_once_more, held_once_less}
 
