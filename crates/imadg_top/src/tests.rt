@@ -97,9 +97,14 @@ fn assert_runs(
     Ok(())
 }
 
-/// The feed with these bytes in the place of its own.
-fn damaged(alloc: Global, len: usize, damage: &[(usize, u8)]) -> Result<Vec<u8>, Fail> {
-    let mut feed = Vec::from_slice(alloc, FEED.as_slice())?;
+/// The first bytes of a feed, with these in the place of its own.
+fn damaged(
+    alloc: Global,
+    whole: &[u8],
+    len: usize,
+    damage: &[(usize, u8)],
+) -> Result<Vec<u8>, Fail> {
+    let mut feed = Vec::from_slice(alloc, whole)?;
     feed.truncate(len);
     for (at, byte) in damage {
         if *at < feed.len() {
@@ -310,7 +315,7 @@ const DAMAGES: [Damage; 24] = [
 #[test]
 fn names_each_damage(rt: HostRuntime) -> Result<(), Fail> {
     for (name, len, damage, status, taken, written) in DAMAGES {
-        let feed = damaged(rt.alloc(), len, damage)?;
+        let feed = damaged(rt.alloc(), FEED.as_slice(), len, damage)?;
         for gives in [1, 7, 100_000] {
             let outside = Outside { gives, ..CALM };
             let wanted = (status, taken, written);
@@ -445,7 +450,7 @@ fn names_each_truncation(rt: HostRuntime) -> Result<(), Fail> {
             ANSWER
         };
         let written = format!(in rt.alloc(); "{before}feed refused: Truncated at byte {len}\n")?;
-        let feed = damaged(rt.alloc(), len, &[])?;
+        let feed = damaged(rt.alloc(), FEED.as_slice(), len, &[])?;
         let wanted = (2, len as u64, written.as_str());
         assert_runs(
             &rt,
@@ -514,7 +519,7 @@ fn yields_to_the_outside(rt: HostRuntime) -> Result<(), Fail> {
             wanted,
         )?;
     }
-    let feed = damaged(rt.alloc(), 60, &[])?;
+    let feed = damaged(rt.alloc(), FEED.as_slice(), 60, &[])?;
     let outside = Outside {
         takes: 5,
         failing_write: 2,
@@ -692,7 +697,7 @@ fn answers_session_by_session(rt: HostRuntime) -> Result<(), Fail> {
     const ANSWERS: &str =
         "d1 s1 c1 scn=11 rows=1 col=0 row=1\n= 1\nd1 s2 c1 scn=11 refused NoTable\n\
 d1 s2 c2 scn=11 rows=1 col=0 row=1\n= 1\nd1 end scn=11\n";
-    let mut feed = damaged(rt.alloc(), 98, &[(14, 2)])?;
+    let mut feed = damaged(rt.alloc(), FEED.as_slice(), 98, &[(14, 2)])?;
     for command in [
         "\x02SELECT COUNT FROM t2",
         "\x01SELECT COUNT FROM t1",
@@ -769,7 +774,7 @@ const REFUSALS: [Refusal; 8] = [
 fn refuses_redo_that_fails_a_check(rt: HostRuntime) -> Result<(), Fail> {
     for (name, redo, written) in REFUSALS {
         let feed = feed_of(rt.alloc(), redo, 1, "SYNC")?;
-        let taken = feed.len() as u64 - 5;
+        let taken = (feed.len() as u64).saturating_sub(5);
         assert_runs(
             &rt,
             rt.alloc(),
@@ -878,17 +883,23 @@ fn push_command(alloc: Global, feed: &mut Vec<u8>, session: u8, text: &str) -> R
     push_frame(feed, b'Q', payload.as_slice())
 }
 
+/// Appends commands of session 1.
+fn push_commands(alloc: Global, feed: &mut Vec<u8>, texts: &[&str]) -> Result<(), Fail> {
+    for text in texts {
+        push_command(alloc, feed, 1, text)?;
+    }
+    Ok(())
+}
+
 #[test]
 fn runs_whole_deliveries(rt: HostRuntime) -> Result<(), Fail> {
     for (name, redo, commands, status, written) in RUNS {
         let mut feed = Vec::from_slice(rt.alloc(), &FEED.as_slice()[..15])?;
         push_redo(rt.alloc(), &mut feed, redo, 100)?;
-        for text in commands {
-            push_command(rt.alloc(), &mut feed, 1, text)?;
-        }
+        push_commands(rt.alloc(), &mut feed, commands)?;
         push_ends(&mut feed)?;
         let unread = if status == 0 { 0 } else { 5 };
-        let taken = feed.len() as u64 - unread;
+        let taken = (feed.len() as u64).saturating_sub(unread);
         assert_runs(
             &rt,
             rt.alloc(),
@@ -1009,12 +1020,7 @@ const TWO_DAMAGES: [TwoDamage; 13] = [
 #[test]
 fn names_each_damage_of_two_threads(rt: HostRuntime) -> Result<(), Fail> {
     for (name, damage, status, taken, written) in TWO_DAMAGES {
-        let mut feed = Vec::from_slice(rt.alloc(), TWO_THREADS.as_slice())?;
-        for (at, byte) in damage {
-            if *at < feed.len() {
-                feed[*at] = *byte;
-            }
-        }
+        let feed = damaged(rt.alloc(), TWO_THREADS.as_slice(), 236, damage)?;
         for gives in [1, 100_000] {
             let outside = Outside { gives, ..CALM };
             assert_runs(
