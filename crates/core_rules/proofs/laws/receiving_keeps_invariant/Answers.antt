@@ -1,0 +1,5 @@
+use Rattle.core_rules.proofs.Whole.{receiving_keeps_invariant}
+use Rattle.core_rules.proofs.laws.receiving_keeps_invariant.Goals as goal
+
+pub returns : goal.returns
+returns c = receiving_keeps_invariant

@@ -1,0 +1,17 @@
+pub mod Share
+pub mod Extents
+pub mod State
+pub mod Applying
+pub mod Flush
+pub mod Populations
+pub mod Scans
+pub mod Restarts
+pub mod Step
+pub mod LogFacts
+pub mod Parts
+pub mod UnitParts
+pub mod Invariant
+pub mod Runs
+pub mod Covering
+pub mod ColumnUse
+pub mod Laws
