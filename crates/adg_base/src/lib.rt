@@ -19,4 +19,5 @@ pub mod steps;
 mod tests;
 pub mod text;
 pub mod value;
+pub mod value_ref;
 pub mod vector;

@@ -6,7 +6,7 @@ use Rattle.adg_base.specs.declared.log.LogEntry.{LogEntry}
 use Rattle.adg_model.specs.Log.{frontier, entries_from, in_order, numbered, upto, merged_log}
 use Rattle.adg_model.specs.Sound.{IsSound, ScnsWithin}
 use Rattle.adg_model.specs.Laws.{LogContinues}
-use Rattle.adg_model.proofs.LogLaws.{ScnsRise, each_weaker, each-numbered, each-in_order, scns_rise-in_order}
+use Rattle.adg_model.proofs.LogLaws.{ScnsRise, each_weaker, each_numbered, each_in_order, scns_rise_in_order}
 use Rattle.adg_model.proofs.DeliveryLaws.{log_grows_by_delivery}
 
 -- positions that were given stay when they are given again
@@ -28,17 +28,17 @@ numbered_rest pos (e ∷ es) (b ∷ bs) rest h =
     let there : pos + length (b ∷ bs) ≡ pos + 1 + length bs = omega arith in
     ap (λ (n : ℕ). numbered n rest) there ∙ later
 
-scns_rise-numbered : (pos : ℕ) (es : List LogEntry) → ScnsRise es → ScnsRise (numbered pos es)
-scns_rise-numbered pos [] h = tt
-scns_rise-numbered pos (e ∷ es) h = (each-numbered (λ scn. e.scn ≤ scn) (pos + 1) es h.0, scns_rise-numbered (pos + 1) es h.1)
+scns_rise_numbered : (pos : ℕ) (es : List LogEntry) → ScnsRise es → ScnsRise (numbered pos es)
+scns_rise_numbered pos [] h = tt
+scns_rise_numbered pos (e ∷ es) h = (each_numbered (λ scn. e.scn ≤ scn) (pos + 1) es h.0, scns_rise_numbered (pos + 1) es h.1)
 
-scns_rise-tail : (xs ys : List LogEntry) → ScnsRise (xs ++ ys) → ScnsRise ys
-scns_rise-tail [] ys h = h
-scns_rise-tail (x ∷ xs) ys h = scns_rise-tail xs ys h.1
+scns_rise_tail : (xs ys : List LogEntry) → ScnsRise (xs ++ ys) → ScnsRise ys
+scns_rise_tail [] ys h = h
+scns_rise_tail (x ∷ xs) ys h = scns_rise_tail xs ys h.1
 
-each-tail : (P : LogEntry → Type 0) (xs ys : List LogEntry) → AllByRecursion P (xs ++ ys) → AllByRecursion P ys
-each-tail P [] ys h = h
-each-tail P (x ∷ xs) ys h = each-tail P xs ys h.1
+each_tail : (P : LogEntry → Type 0) (xs ys : List LogEntry) → AllByRecursion P (xs ++ ys) → AllByRecursion P ys
+each_tail P [] ys h = h
+each_tail P (x ∷ xs) ys h = each_tail P xs ys h.1
 
 upto_within : (scn : ℕ) (es : List LogEntry) → AllByRecursion (λ e. e.scn ≤ scn) (upto scn es)
 upto_within scn [] = tt
@@ -58,8 +58,8 @@ log_continues ds more old new n h k sound =
     let grown = log_grows_by_delivery ds more old new n h k in
     let rest = grown.0 in
     let kept = upto (frontier new) (entries_from 1 new) in
-    let rise : ScnsRise (merged_log new) = scns_rise-numbered 0 (in_order kept) (scns_rise-in_order kept) in
-    let below : AllByRecursion (λ e. e.scn ≤ frontier new) (merged_log new) = each-numbered (λ scn. scn ≤ frontier new) 0 (in_order kept) (each-in_order (λ e. e.scn ≤ frontier new) kept (upto_within (frontier new) (entries_from 1 new))) in
+    let rise : ScnsRise (merged_log new) = scns_rise_numbered 0 (in_order kept) (scns_rise_in_order kept) in
+    let below : AllByRecursion (λ e. e.scn ≤ frontier new) (merged_log new) = each_numbered (λ scn. scn ≤ frontier new) 0 (in_order kept) (each_in_order (λ e. e.scn ≤ frontier new) kept (upto_within (frontier new) (entries_from 1 new))) in
     let places : numbered (0 + length (merged_log old)) rest ≡ rest = numbered_rest 0 (in_order kept) (merged_log old) rest grown.1 in
     let here : length (merged_log old) ≡ 0 + length (merged_log old) = omega arith in (
       rest,
@@ -68,9 +68,9 @@ log_continues ds more old new n h k sound =
         sound = subst IsSound grown.1 sound;
         places = ap (λ (n : ℕ). numbered n rest) here ∙ places;
         scns = scns_within (frontier old + 1) (frontier new) rest
-            (scns_rise-tail (merged_log old) rest (subst ScnsRise grown.1 rise))
+            (scns_rise_tail (merged_log old) rest (subst ScnsRise grown.1 rise))
             (each_weaker (λ e. frontier old < e.scn) (λ e. frontier old + 1 ≤ e.scn) (λ e j. omega (arith, j)) rest grown.2)
-            (each-tail (λ e. e.scn ≤ frontier new) (merged_log old) rest (subst (AllByRecursion (λ e. e.scn ≤ frontier new)) grown.1 below));
+            (each_tail (λ e. e.scn ≤ frontier new) (merged_log old) rest (subst (AllByRecursion (λ e. e.scn ≤ frontier new)) grown.1 below));
         forward = grown.3;
       },
     )

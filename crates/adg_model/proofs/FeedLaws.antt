@@ -117,28 +117,28 @@ first_text deliveries d h =
     flat_map-append (λ (r : RawDelivery). flat_map (bytes_for 1) r.pieces) deliveries (d ∷ []) ∙ ap (λ l. thread_text 1 deliveries ++ l) last
 
 -- one delivery more
-pub deliveries-more : (ds : List (List Item)) (items : List Item) → deliveries_bytes (ds ++ items ∷ []) ≡ deliveries_bytes ds ++ delivery_bytes items
-deliveries-more ds items = flat_map-append delivery_bytes ds (items ∷ []) ∙ ap (λ l. deliveries_bytes ds ++ l) (append-nil (delivery_bytes items))
+pub deliveries_more : (ds : List (List Item)) (items : List Item) → deliveries_bytes (ds ++ items ∷ []) ≡ deliveries_bytes ds ++ delivery_bytes items
+deliveries_more ds items = flat_map-append delivery_bytes ds (items ∷ []) ∙ ap (λ l. deliveries_bytes ds ++ l) (append-nil (delivery_bytes items))
 
-pub after-more : (st : Standing) (ds : List (List Item)) (items : List Item) → after_deliveries st (ds ++ items ∷ []) ≡ after_delivery (after_deliveries st ds) items
-after-more st [] items = refl
-after-more st (d ∷ ds) items = after-more (after_delivery st d) ds items
+pub after_more : (st : Standing) (ds : List (List Item)) (items : List Item) → after_deliveries st (ds ++ items ∷ []) ≡ after_delivery (after_deliveries st ds) items
+after_more st [] items = refl
+after_more st (d ∷ ds) items = after_more (after_delivery st d) ds items
 
-pub feed-more : (st : Standing) (ds : List (List Item)) (items : List Item) → AreDeliveries st ds → IsDelivery (after_deliveries st ds) items → AreDeliveries st (ds ++ items ∷ [])
-feed-more st [] items h k = (k, tt)
-feed-more st (d ∷ ds) items h k = (h.0, feed-more (after_delivery st d) ds items h.1 k)
+pub feed_more : (st : Standing) (ds : List (List Item)) (items : List Item) → AreDeliveries st ds → IsDelivery (after_deliveries st ds) items → AreDeliveries st (ds ++ items ∷ [])
+feed_more st [] items h k = (k, tt)
+feed_more st (d ∷ ds) items h k = (h.0, feed_more (after_delivery st d) ds items h.1 k)
 
 pub ends_count : (st : Standing) (ds : List (List Item)) → (after_deliveries st ds).ends ≡ st.ends + length ds
 ends_count st [] = omega arith
 ends_count st (d ∷ ds) = let ih = ends_count (after_delivery st d) ds in omega (arith, ih)
 
-pub after-threads : (st : Standing) (ds : List (List Item)) → (after_deliveries st ds).threads ≡ st.threads
-after-threads st [] = refl
-after-threads st (d ∷ ds) = after-threads (after_delivery st d) ds
+pub after_threads : (st : Standing) (ds : List (List Item)) → (after_deliveries st ds).threads ≡ st.threads
+after_threads st [] = refl
+after_threads st (d ∷ ds) = after_threads (after_delivery st d) ds
 
-pub after-sessions : (st : Standing) (ds : List (List Item)) → (after_deliveries st ds).sessions ≡ st.sessions
-after-sessions st [] = refl
-after-sessions st (d ∷ ds) = after-sessions (after_delivery st d) ds
+pub after_sessions : (st : Standing) (ds : List (List Item)) → (after_deliveries st ds).sessions ≡ st.sessions
+after_sessions st [] = refl
+after_sessions st (d ∷ ds) = after_sessions (after_delivery st d) ds
 
 pub redo_within : (st : Standing) (ds : List (List Item)) → AreDeliveries st ds → st.redo ≤ most_redo → (after_deliveries st ds).redo ≤ most_redo
 redo_within st [] h le = le

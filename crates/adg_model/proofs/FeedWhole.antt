@@ -137,15 +137,15 @@ frame_not_cut tag payload more short cut =
     let long = length-append payload more in
     ⊎_elim (λ few. omega (arith, few)) (λ few. omega (arith, says, long, few)) cut
 
-pub frame_fault-whole : (st : Standing) (before : List Item) (tag : ℕ) (payload more : List ℕ) → length payload < 2 ^ 32 → frame_fault st before (frame tag payload ++ more) ≡ tag_fault before tag else_check length_fault st before tag (length payload) else_check payload_fault st before tag (payload ++ more)
+pub frame_fault_whole : (st : Standing) (before : List Item) (tag : ℕ) (payload more : List ℕ) → length payload < 2 ^ 32 → frame_fault st before (frame tag payload ++ more) ≡ tag_fault before tag else_check length_fault st before tag (length payload) else_check payload_fault st before tag (payload ++ more)
 unfolding frame frame_fault
-frame_fault-whole st before tag payload more short =
+frame_fault_whole st before tag payload more short =
     ap₂ (λ (b : Bool) (n : ℕ). tag_fault before tag else_check (if b then length_fault st before tag n else_check payload_fault st before tag (payload ++ more) else None)) (has_its_length (length payload) (payload ++ more)) (says_length payload more short)
 
 -- a frame that passes each check
 frame_good : (st : Standing) (before : List Item) (tag : ℕ) (payload more : List ℕ) → length payload < 2 ^ 32 → tag_fault before tag ≡ None → length_fault st before tag (length payload) ≡ None → payload_fault st before tag (payload ++ more) ≡ None → IsGood st before (frame tag payload ++ more)
 frame_good st before tag payload more short tags lens firsts = record {
-  passes = frame_fault-whole st before tag payload more short ∙ ap₂ (λ a b. a else_check b else_check payload_fault st before tag (payload ++ more)) tags lens ∙ firsts;
+  passes = frame_fault_whole st before tag payload more short ∙ ap₂ (λ a b. a else_check b else_check payload_fault st before tag (payload ++ more)) tags lens ∙ firsts;
   whole = frame_not_cut tag payload more short;
 }
 

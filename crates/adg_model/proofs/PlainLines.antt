@@ -4,7 +4,8 @@ use Rattle.std.proofs.lemmas.List.{drop_more, take_more, map-append}
 use Rattle.std.specs.declared.cmp.Ordering.{Ordering}
 use Rattle.std.specs.declared.cmp.Ordering.TheVariants.{Less, Equal, Greater}
 use Rattle.adg_base.specs.declared.value.Value.{Value}
-use Rattle.adg_model.specs.Query.{value_cmp, by_order, with_key, number_of, total}
+use Rattle.adg_model.specs.Query.{by_order, with_key, number_of, total}
+use Rattle.adg_base.specs.Values.{value_cmp}
 use Rattle.adg_model.specs.Plain.{key_place}
 
 -- a key is put where it goes

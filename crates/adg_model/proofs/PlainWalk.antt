@@ -3,10 +3,10 @@ use Rattle.std.proofs.Common.{◌≡◌, ℕ, suc, ◌+◌, ◌<◌, Bool, true,
 use Rattle.std.proofs.lemmas.List.{take_more, take_all, drop_all}
 use Rattle.std.proofs.lemmas.Bool.{ltb-false}
 use Rattle.std.specs.List.{position, position_or_len, remove}
-use Rattle.adg_base.specs.Address.{Place}
+use Rattle.adg_base.specs.Address.{Place, same_place}
 use Rattle.adg_base.specs.declared.log.LogEntry.{LogEntry}
-use Rattle.adg_model.specs.Database.{Rows, Change, same_place, struck, played, changed, no_database, after, walked, database}
-use Rattle.adg_model.proofs.RowLaws.{walked-append}
+use Rattle.adg_model.specs.Database.{Rows, Change, struck, played, changed, no_database, after, walked, database}
+use Rattle.adg_model.proofs.RowLaws.{walked_append}
 
 -- one entry more
 pub database_nil : database [] ≡ no_database
@@ -17,13 +17,13 @@ pub database_more : (es : List LogEntry) (i : ℕ) (e : LogEntry) → i < length
 unfolding database
 database_more es i e h is =
     ap (walked no_database) (take_more es i e h)
-    ∙ walked-append no_database (take i es) (get_or es i e ∷ [])
+    ∙ walked_append no_database (take i es) (get_or es i e ∷ [])
     ∙ ap (λ (x : LogEntry). after (walked no_database (take i es)) x.vector) (sym is)
 
 -- changes before others
-pub played-append : (cs earlier : List Change) (rows : Rows) → played (cs ++ earlier) rows ≡ played cs (played earlier rows)
-played-append [] earlier rows = refl
-played-append (c ∷ cs) earlier rows = ap (changed c) (played-append cs earlier rows)
+pub played_append : (cs earlier : List Change) (rows : Rows) → played (cs ++ earlier) rows ≡ played cs (played earlier rows)
+played_append [] earlier rows = refl
+played_append (c ∷ cs) earlier rows = ap (changed c) (played_append cs earlier rows)
 
 -- to strike a change is to remove the first at its address
 abbrev pub removed : List Change → Option ℕ → List Change

@@ -6,9 +6,9 @@ use Rattle.std.proofs.lemmas.Nat.{from_be_bytes-to_be_bytes_2, from_be_bytes-to_
 use Rattle.adg_model.specs.Records.{Raw, raw_len, raw_bytes, IsRaw, IsPart, stated_len, stated_scn}
 
 -- the length of a spelled record
-pub length-raw_bytes : (r : Raw) → length (raw_bytes r) ≡ raw_len r
+pub length_raw_bytes : (r : Raw) → length (raw_bytes r) ≡ raw_len r
 unfolding raw_bytes
-length-raw_bytes r = omega (arith, length-append (to_be_bytes w16 (raw_len r) ++ to_be_bytes w64 r.scn ++ r.count ∷ r.body) (to_be_bytes w16 (raw_len r)), length-append (to_be_bytes w16 (raw_len r) ++ to_be_bytes w64 r.scn) (r.count ∷ r.body))
+length_raw_bytes r = omega (arith, length-append (to_be_bytes w16 (raw_len r) ++ to_be_bytes w64 r.scn ++ r.count ∷ r.body) (to_be_bytes w16 (raw_len r)), length-append (to_be_bytes w16 (raw_len r) ++ to_be_bytes w64 r.scn) (r.count ∷ r.body))
 
 -- a text that begins with a record, field by field
 pub record ReadsAs (r : Raw) (text rest : List ℕ) : Type 0 where
@@ -19,13 +19,13 @@ pub record ReadsAs (r : Raw) (text rest : List ℕ) : Type 0 where
   pub rest_is : drop (raw_len r) text ≡ rest
   pub whole : raw_len r ≤ length text
 
-tail-is : (r : Raw) (rest : List ℕ) → drop 11 (raw_bytes r ++ rest) ≡ r.body ++ (to_be_bytes w16 (raw_len r) ++ rest)
+tail_is : (r : Raw) (rest : List ℕ) → drop 11 (raw_bytes r ++ rest) ≡ r.body ++ (to_be_bytes w16 (raw_len r) ++ rest)
 unfolding raw_bytes
-tail-is r rest = append_assoc r.body (to_be_bytes w16 (raw_len r)) rest
+tail_is r rest = append_assoc r.body (to_be_bytes w16 (raw_len r)) rest
 
 -- the bytes of the vectors
 body_is : (r : Raw) (rest : List ℕ) → take (raw_len r - 13) (drop 11 (raw_bytes r ++ rest)) ≡ r.body
-body_is r rest = rw (tail-is r rest) (take_at r.body (to_be_bytes w16 (raw_len r) ++ rest) (raw_len r - 13) (omega arith))
+body_is r rest = rw (tail_is r rest) (take_at r.body (to_be_bytes w16 (raw_len r) ++ rest) (raw_len r - 13) (omega arith))
 
 len_is : (r : Raw) (rest : List ℕ) → raw_len r < 2 ^ 16 → stated_len (raw_bytes r ++ rest) ≡ raw_len r
 unfolding raw_bytes
@@ -45,8 +45,8 @@ reads_as r rest good = record {
   scn = scn_is r rest good.to;
   count = count_is r rest;
   body = body_is r rest;
-  rest_is = drop_at (raw_bytes r) rest (raw_len r) (length-raw_bytes r);
-  whole = omega (arith, length-raw_bytes r, length-append (raw_bytes r) rest);
+  rest_is = drop_at (raw_bytes r) rest (raw_len r) (length_raw_bytes r);
+  whole = omega (arith, length_raw_bytes r, length-append (raw_bytes r) rest);
 }
 
 abbrev raw_from : ℕ → ℕ → List ℕ → Raw
@@ -57,8 +57,8 @@ raw_same a b scn count body =
     ap (λ (n : ℕ). raw_from n a.count a.body) scn ∙ ap (λ (n : ℕ). raw_from b.scn n a.body) count ∙ ap (λ (t : List ℕ). raw_from b.scn b.count t) body
 
 -- no record's spelling goes on as another's
-pub raw_bytes-apart : (a b : Raw) (x y : List ℕ) → IsRaw a → IsRaw b → raw_bytes a ++ x ≡ raw_bytes b ++ y → (a ≡ b) × (x ≡ y)
-raw_bytes-apart a b x y good_a good_b e =
+pub raw_bytes_apart : (a b : Raw) (x y : List ℕ) → IsRaw a → IsRaw b → raw_bytes a ++ x ≡ raw_bytes b ++ y → (a ≡ b) × (x ≡ y)
+raw_bytes_apart a b x y good_a good_b e =
     let p = reads_as a x good_a in
     let q = reads_as b y good_b in
     let len : raw_len a ≡ raw_len b = sym p.len ∙ ap stated_len e ∙ q.len in
@@ -69,7 +69,7 @@ raw_bytes-apart a b x y good_a good_b e =
     (raw_same a b scn count body, rest)
 
 -- where a record's spelling begins there is a whole record
-pub raw-no_part : (r : Raw) (rest : List ℕ) → IsRaw r → IsPart (raw_bytes r ++ rest) → ⊥
-raw-no_part r rest good part =
+pub raw_no_part : (r : Raw) (rest : List ℕ) → IsRaw r → IsPart (raw_bytes r ++ rest) → ⊥
+raw_no_part r rest good part =
     let p = reads_as r rest good in
     ⊎_elim (λ few. omega (arith, p.whole, few)) (λ few. omega (arith, p.whole, p.len, few)) part

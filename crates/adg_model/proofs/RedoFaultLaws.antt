@@ -20,9 +20,9 @@ use Rattle.adg_model.specs.Log.{merged_log, ReceivedFrom}
 use Rattle.adg_model.specs.Database.{Database, no_database, after, walked, database}
 use Rattle.adg_model.specs.Sound.{refusal, SoundFrom, IsFirstUnsound, IsFirstBadRecord, IsFirstUnsoundEntry, IsRedoFault}
 use Rattle.adg_model.specs.Laws.{OneRedoFault}
-use Rattle.adg_model.proofs.VectorsSpelled.{vector_bytes-apart}
+use Rattle.adg_model.proofs.VectorsSpelled.{vector_bytes_apart}
 use Rattle.adg_model.proofs.RecordsFault.{trailer_at, fault_whole}
-use Rattle.adg_model.proofs.RecordsSpelled.{reads_as, raw_bytes-apart, raw-no_part}
+use Rattle.adg_model.proofs.RecordsSpelled.{reads_as, raw_bytes_apart, raw_no_part}
 use Rattle.adg_model.proofs.DeliveryLaws.{raws_go_on, same_record, records_are_determined}
 use Rattle.adg_model.proofs.LogLaws.{raws_after}
 
@@ -66,7 +66,7 @@ raws_within mark [] (s ∷ ss) x y fault h k e f =
     let clash : None ≡ Some fault = sym here ∙ f in
     absurd cc
 raws_within mark (r ∷ rs) (s ∷ ss) x y fault h k e f =
-    let p = raw_bytes-apart r s (flat_map raw_bytes rs ++ x) (flat_map raw_bytes ss ++ y) h.0 k.0 (sym (first_raw r rs x) ∙ e ∙ first_raw s ss y) in
+    let p = raw_bytes_apart r s (flat_map raw_bytes rs ++ x) (flat_map raw_bytes ss ++ y) h.0 k.0 (sym (first_raw r rs x) ∙ e ∙ first_raw s ss y) in
     let others : AreRaws (mark_of r) ss = subst (λ (t : Raw). AreRaws (mark_of t) ss) (sym p.0) k.3 in
     let later = raws_within (mark_of r) rs ss x y fault h.3 others p.1 f in
     (later.0, ap₂ (λ t ts. t ∷ ts) p.0 later.1, later.2)
@@ -76,7 +76,7 @@ raws_compare : (mark : Mark) (rs ss : List Raw) (x y : List ℕ) → AreRaws mar
 raws_compare mark [] ss x y h k e = inr (ss, refl)
 raws_compare mark (r ∷ rs) [] x y h k e = inl (r ∷ rs, refl)
 raws_compare mark (r ∷ rs) (s ∷ ss) x y h k e =
-    let p = raw_bytes-apart r s (flat_map raw_bytes rs ++ x) (flat_map raw_bytes ss ++ y) h.0 k.0 (sym (first_raw r rs x) ∙ e ∙ first_raw s ss y) in
+    let p = raw_bytes_apart r s (flat_map raw_bytes rs ++ x) (flat_map raw_bytes ss ++ y) h.0 k.0 (sym (first_raw r rs x) ∙ e ∙ first_raw s ss y) in
     let others : AreRaws (mark_of r) ss = subst (λ (t : Raw). AreRaws (mark_of t) ss) (sym p.0) k.3 in
     both p.0 (raws_compare (mark_of r) rs ss x y h.3 others p.1)
   where
@@ -111,7 +111,7 @@ vectors_within : (count : ℕ) (vs ws : List Vector) (x y : List ℕ) → AreVec
 vectors_within count [] ws x y h k le e = (ws, refl, e)
 vectors_within count (v ∷ vs) [] x y h k le e = absurd (omega (arith, le))
 vectors_within count (v ∷ vs) (w ∷ ws) x y h k le e =
-    let p = vector_bytes-apart count v w (vectors_bytes vs ++ x) (vectors_bytes ws ++ y) h.0 k.0 (sym (append_assoc (vector_bytes v) (vectors_bytes vs) x) ∙ e ∙ append_assoc (vector_bytes w) (vectors_bytes ws) y) in
+    let p = vector_bytes_apart count v w (vectors_bytes vs ++ x) (vectors_bytes ws ++ y) h.0 k.0 (sym (append_assoc (vector_bytes v) (vectors_bytes vs) x) ∙ e ∙ append_assoc (vector_bytes w) (vectors_bytes ws) y) in
     let later = vectors_within count vs ws x y h.1 k.1 (omega (arith, le)) p.1 in
     (later.0, ap₂ (λ t ts. t ∷ ts) (sym p.0) later.1, later.2)
 
@@ -120,16 +120,16 @@ reads_on : (count : ℕ) (body : List ℕ) (index : ℕ) (more : List Vector) (y
 reads_on count body index [] y b h within some e = omega (arith, some)
 reads_on count body index (v ∷ more) y b h within some e = b.none within v (vectors_bytes more ++ y) h.0 (e ∙ append_assoc (vector_bytes v) (vectors_bytes more) y)
 
-each-behind : (count : ℕ) (vs more ws : List Vector) → ws ≡ vs ++ more → AreVectors count ws → AreVectors count more
-each-behind count [] more ws e h = subst (AreVectors count) e h
-each-behind count (v ∷ vs) more [] e h = absurd cc
-each-behind count (v ∷ vs) more (w ∷ ws) e h = each-behind count vs more ws (tails w v ws (vs ++ more) e).1 h.1
+each_behind : (count : ℕ) (vs more ws : List Vector) → ws ≡ vs ++ more → AreVectors count ws → AreVectors count more
+each_behind count [] more ws e h = subst (AreVectors count) e h
+each_behind count (v ∷ vs) more [] e h = absurd cc
+each_behind count (v ∷ vs) more (w ∷ ws) e h = each_behind count vs more ws (tails w v ws (vs ++ more) e).1 h.1
 
 not_earlier : (count : ℕ) (body : List ℕ) (i j : ℕ) (a : IsBadVector count body i) (b : IsBadVector count body j) → length a.before < length b.before → ⊥
 not_earlier count body i j a b lt =
     let p = vectors_within count a.before b.before a.rest b.rest a.readable b.readable (omega (arith, lt)) (sym a.spelled ∙ b.spelled) in
     let len = ap length p.1 in
-    reads_on count body i p.0 b.rest a (each-behind count a.before p.0 b.before p.1 b.readable) (omega (arith, a.place, b.place, b.within, lt)) (omega (arith, lt, len, length-append a.before p.0)) p.2
+    reads_on count body i p.0 b.rest a (each_behind count a.before p.0 b.before p.1 b.readable) (omega (arith, a.place, b.place, b.within, lt)) (omega (arith, lt, len, length-append a.before p.0)) p.2
 
 same_index : (count : ℕ) (body : List ℕ) (i j : ℕ) → IsBadVector count body i → IsBadVector count body j → i ≡ j
 same_index count body i j a b =
@@ -145,7 +145,7 @@ good_vectors : (vs : List Vector) (index : ℕ) → AreVectors (length vs) vs �
 good_vectors vs index h b =
     let p = vectors_within (length vs) b.before vs b.rest [] b.readable h (omega (arith, b.place, b.within)) (sym b.spelled ∙ sym (append-nil (vectors_bytes vs))) in
     let len = ap length p.1 in
-    let more = each-behind (length vs) b.before p.0 vs p.1 h in
+    let more = each_behind (length vs) b.before p.0 vs p.1 h in
     elim (cases_lt (length b.before) (length vs)) [
       | inl lt ↦ reads_on (length vs) (vectors_bytes vs) index p.0 [] b more (omega (arith, b.place, lt)) (omega (arith, lt, len, length-append b.before p.0)) p.2
       | inr ge ↦ (
@@ -233,7 +233,7 @@ no_bad text rs bs (Frame f) h (fails, readable) =
         absurd cc
     behind (k ∷ ks) e r =
         let follow = raws_after first_mark (map raw_of rs) (k ∷ ks) (subst (AreRaws first_mark) e fails.follow) in
-        raw-no_part k (flat_map raw_bytes ks ++ fails.rest) follow.0 (subst IsPart (sym r ∙ first_raw k ks fails.rest) h.raws.part)
+        raw_no_part k (flat_map raw_bytes ks ++ fails.rest) follow.0 (subst IsPart (sym r ∙ first_raw k ks fails.rest) h.raws.part)
 no_bad text rs bs (BadVector index) h b =
     let p = raws_go_on first_mark (map raw_of bs ++ b.bad ∷ []) (map raw_of rs) b.rest h.rest [] b.follow h.raws.follow h.raws.part (append-nil (flat_map raw_bytes (map raw_of bs ++ b.bad ∷ []) ++ b.rest) ∙ sym b.spelled ∙ h.raws.spelled) in
     not_bad rs bs b.bad p.0 index h.vectors (p.1 ∙ append_assoc (map raw_of bs) (b.bad ∷ []) p.0) b.shown

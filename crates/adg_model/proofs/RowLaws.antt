@@ -6,17 +6,18 @@ use Rattle.adg_base.specs.declared.log.LogEntry.{LogEntry}
 use Rattle.adg_model.specs.Log.{upto}
 use Rattle.adg_base.specs.declared.vector.Vector.{Vector}
 use Rattle.adg_base.specs.declared.vector.Vector.TheVariants.{Begin, Put, Delete, Undo, Commit, Abort, Create, DropObject, AddColumn, NoInMemory, EndThread}
-use Rattle.adg_model.specs.Database.{Rows, Change, place, played, struck, set_at, Database, no_database, after, walked, database, commits}
+use Rattle.adg_model.specs.Database.{Rows, Change, played, struck, set_at, Database, no_database, after, walked, database, commits}
+use Rattle.adg_base.specs.Address.{place}
 use Rattle.adg_model.specs.Laws.{RowsStopAtScn, is_of, has_committed, without, UncommittedChangeNothing}
-use Rattle.adg_model.proofs.LogLaws.{upto-append, upto_none}
+use Rattle.adg_model.proofs.LogLaws.{upto_append, upto_none}
 
-pub walked-append : (db : Database) (xs ys : List LogEntry) → walked db (xs ++ ys) ≡ walked (walked db xs) ys
-walked-append db [] ys = refl
-walked-append db (x ∷ xs) ys = walked-append (after db x.vector) xs ys
+pub walked_append : (db : Database) (xs ys : List LogEntry) → walked db (xs ++ ys) ≡ walked (walked db xs) ys
+walked_append db [] ys = refl
+walked_append db (x ∷ xs) ys = walked_append (after db x.vector) xs ys
 
 pub rows_stop_at_scn : RowsStopAtScn
 rows_stop_at_scn log more scn h =
-    let e : upto scn (log ++ more) ≡ upto scn log = upto-append scn log more ∙ ap (λ es. upto scn log ++ es) (upto_none scn more h) ∙ append-nil (upto scn log) in
+    let e : upto scn (log ++ more) ≡ upto scn log = upto_append scn log more ∙ ap (λ es. upto scn log ++ es) (upto_none scn more h) ∙ append-nil (upto scn log) in
     (ap (λ es. (database es).rows) e, ap (λ es. (database es).tables) e)
 
 -- two databases that differ in what is pending of a transaction, and not in rows
@@ -86,9 +87,9 @@ alike_walked t (e ∷ es) a b s h = by_test (is_of t e.vector) refl (λ c d k. a
     by_test false i ih = ih (after a e.vector) (after b e.vector) (alike_other t a b s e.vector i)
 
 -- two filters, in either order
-filter-filter : {X : Type 0} (p q : X → Bool) (xs : List X) → filter p (filter q xs) ≡ filter q (filter p xs)
-filter-filter p q [] = refl
-filter-filter {X} p q (x ∷ xs) = by_tests (p x) refl (q x) refl (filter-filter p q xs)
+filter_filter : {X : Type 0} (p q : X → Bool) (xs : List X) → filter p (filter q xs) ≡ filter q (filter p xs)
+filter_filter p q [] = refl
+filter_filter {X} p q (x ∷ xs) = by_tests (p x) refl (q x) refl (filter_filter p q xs)
   where
     by_tests : (b : Bool) → p x ≡ b → (c : Bool) → q x ≡ c → filter p (filter q xs) ≡ filter q (filter p xs) → filter p (cond c (x ∷ filter q xs) (filter q xs)) ≡ filter q (cond b (x ∷ filter p xs) (filter p xs))
     by_tests true t true k ih = rw (t, k) (ap (λ l. x ∷ l) ih)
@@ -100,5 +101,5 @@ pub uncommitted_change_nothing : UncommittedChangeNothing
 unfolding database
 uncommitted_change_nothing log t scn h at =
     let same = alike_walked t (upto scn log) no_database no_database (record { rows = refl; pending = λ n j. refl }) h in
-    let order : without t (upto scn log) ≡ upto scn (without t log) = filter-filter (λ e. not (is_of t e.vector)) (λ e. nat_le e.scn scn) log in
+    let order : without t (upto scn log) ≡ upto scn (without t log) = filter_filter (λ e. not (is_of t e.vector)) (λ e. nat_le e.scn scn) log in
     ap (λ (f : Rows). f at) (same ∙ ap (λ es. (walked no_database es).rows) order)

@@ -8,12 +8,12 @@ use Rattle.adg_model.specs.declared.delivery.RawDelivery.{RawDelivery}
 use Rattle.adg_model.specs.Log.{frontier}
 use Rattle.adg_model.specs.Transcript.{Rises, scn_of, replies_to, LegalFrom}
 use Rattle.adg_model.specs.Laws.{scns_read, StayBelow, ScnsDoNotFall}
-use Rattle.adg_model.proofs.LogLaws.{each-append, each_weaker}
+use Rattle.adg_model.proofs.LogLaws.{each_append, each_weaker}
 
 -- SCNs that rise to one, that one, and SCNs that rise from it
-Rises-append : (low mid high : ℕ) (xs ys : List ℕ) → Rises low mid xs → Rises mid high ys → Rises low high (xs ++ mid ∷ ys)
-Rises-append low mid high [] ys h k = (h, k)
-Rises-append low mid high (x ∷ xs) ys h k = (h.0, Rises-append x mid high xs ys h.1 k)
+Rises_append : (low mid high : ℕ) (xs ys : List ℕ) → Rises low mid xs → Rises mid high ys → Rises low high (xs ++ mid ∷ ys)
+Rises_append low mid high [] ys h k = (h, k)
+Rises_append low mid high (x ∷ xs) ys h k = (h.0, Rises_append x mid high xs ys h.1 k)
 
 -- the ends of SCNs that rise
 rises_ends : (low high : ℕ) (xs : List ℕ) → Rises low high xs → low ≤ high
@@ -47,7 +47,7 @@ read_rises threads sessions session floor earlier (d ∷ ds) [] h = absurd h
 read_rises threads sessions session floor earlier (d ∷ ds) (l ∷ ls) h =
     let here = h.3.rises session in
     let later = read_rises threads sessions session l.end (earlier ++ d ∷ []) ds ls h.4 in
-    rw append_assoc (Rises-append floor l.end (last_end l.end ls) (filter_map scn_of (replies_to session l.list)) (scns_read session ls) here later)
+    rw append_assoc (Rises_append floor l.end (last_end l.end ls) (filter_map scn_of (replies_to session l.list)) (scns_read session ls) here later)
 
 stay_below : (threads sessions session floor : ℕ) (earlier ds : List RawDelivery) (ls : List Lines) → LegalFrom threads sessions earlier floor ds ls → StayBelow threads session earlier ds ls
 stay_below threads sessions session floor earlier [] [] h = tt
@@ -58,7 +58,7 @@ stay_below threads sessions session floor earlier (d ∷ ds) (l ∷ ls) h =
     let f = frontier h.0 in
     let end : l.end ≤ f = h.3.ends in
     let below = each_weaker (λ q. q ≤ l.end) (λ q. q ≤ f) (λ q k. omega (arith, k, end)) qs (rises_below floor l.end qs (h.3.rises session)) in
-    (h.0, h.1, h.2, each-append (λ q. q ≤ f) qs (l.end ∷ []) below (end, tt), stay_below threads sessions session l.end (earlier ++ d ∷ []) ds ls h.4)
+    (h.0, h.1, h.2, each_append (λ q. q ≤ f) qs (l.end ∷ []) below (end, tt), stay_below threads sessions session l.end (earlier ++ d ∷ []) ds ls h.4)
 
 pub scns_do_not_fall : ScnsDoNotFall
 scns_do_not_fall threads sessions floor earlier ds ls h session =

@@ -98,23 +98,23 @@ apart_kinds (c ∷ cs) (d ∷ ds) x y n e =
     let later = apart_kinds cs ds x y (omega arith) (ap (drop 1) e) in
     (ap₂ (λ f fs. f ∷ fs) (same_kind c d (ap (λ l. get_or l 0 0) e)) later.0, later.1)
 
-pub vector_bytes-apart : (count : ℕ) → Apart vector_bytes (IsVector count)
-vector_bytes-apart count (Begin t) (Begin u) x y h k e = let p = apart_64 t u x y h.1 k.1 (ap (drop 1) e) in (ap Begin p.0, p.1)
-vector_bytes-apart count (Put t o b s row) (Put t' o' b' s' row') x y h k e =
+pub vector_bytes_apart : (count : ℕ) → Apart vector_bytes (IsVector count)
+vector_bytes_apart count (Begin t) (Begin u) x y h k e = let p = apart_64 t u x y h.1 k.1 (ap (drop 1) e) in (ap Begin p.0, p.1)
+vector_bytes_apart count (Put t o b s row) (Put t' o' b' s' row') x y h k e =
     let p = apart_change t o b s t' o' b' s' (row_bytes row ++ x) (row_bytes row' ++ y) h.0 k.0 (ap (drop 1) e) in
     let q = apart_row row row' x y h.1 k.1 p.rest in
     (ap (λ n. Put n o b s row) p.txn ∙ ap (λ n. Put t' n b s row) p.obj ∙ ap (λ n. Put t' o' n s row) p.block ∙ ap (λ n. Put t' o' b' n row) p.slot ∙ ap (Put t' o' b' s') q.0, q.1)
-vector_bytes-apart count (Delete t o b s) (Delete t' o' b' s') x y h k e =
+vector_bytes_apart count (Delete t o b s) (Delete t' o' b' s') x y h k e =
     let p = apart_change t o b s t' o' b' s' x y h k (ap (drop 1) e) in
     (ap (λ n. Delete n o b s) p.txn ∙ ap (λ n. Delete t' n b s) p.obj ∙ ap (λ n. Delete t' o' n s) p.block ∙ ap (Delete t' o' b') p.slot, p.rest)
-vector_bytes-apart count (Undo t o b s) (Undo t' o' b' s') x y h k e =
+vector_bytes_apart count (Undo t o b s) (Undo t' o' b' s') x y h k e =
     let p = apart_change t o b s t' o' b' s' x y h k (ap (drop 1) e) in
     (ap (λ n. Undo n o b s) p.txn ∙ ap (λ n. Undo t' n b s) p.obj ∙ ap (λ n. Undo t' o' n s) p.block ∙ ap (Undo t' o' b') p.slot, p.rest)
-vector_bytes-apart count (Commit t f) (Commit u g) x y h k e =
+vector_bytes_apart count (Commit t f) (Commit u g) x y h k e =
     let p = apart_64 t u (flag_byte f ∷ x) (flag_byte g ∷ y) h.1 k.1 (ap (drop 1) e) in
     (ap₂ Commit p.0 (same_flag f g (heads (flag_byte f) (flag_byte g) x y p.1)), ap (drop 1) p.1)
-vector_bytes-apart count (Abort t) (Abort u) x y h k e = let p = apart_64 t u x y h.1 k.1 (ap (drop 1) e) in (ap Abort p.0, p.1)
-vector_bytes-apart count (Create o n f cs) (Create o' n' f' cs') x y h k e =
+vector_bytes_apart count (Abort t) (Abort u) x y h k e = let p = apart_64 t u x y h.1 k.1 (ap (drop 1) e) in (ap Abort p.0, p.1)
+vector_bytes_apart count (Create o n f cs) (Create o' n' f' cs') x y h k e =
     let tail = flag_byte f ∷ length cs ∷ (flat_map (λ k. kind_byte k ∷ []) cs ++ x) in
     let tail' = flag_byte f' ∷ length cs' ∷ (flat_map (λ k. kind_byte k ∷ []) cs' ++ y) in
     let p = apart_16 o o' (to_be_bytes w16 n ++ tail) (to_be_bytes w16 n' ++ tail') h.good_obj.1 k.good_obj.1 (ap (drop 1) e) in
@@ -124,14 +124,14 @@ vector_bytes-apart count (Create o n f cs) (Create o' n' f' cs') x y h k e =
     let flags = same_flag f f' (ap (λ l. get_or l 0 0) q.1) in
     let r = apart_kinds cs cs' x y (ap (λ l. get_or l 1 0) q.1) (ap (drop 2) q.1) in
     (ap (λ m. Create m n f cs) p.0 ∙ ap (λ m. Create o' m f cs) q.0 ∙ ap (λ m. Create o' n' m cs) flags ∙ ap (Create o' n' f') r.0, r.1)
-vector_bytes-apart count (DropObject o) (DropObject o') x y h k e = let p = apart_16 o o' x y h.1 k.1 (ap (drop 1) e) in (ap DropObject p.0, p.1)
-vector_bytes-apart count (AddColumn o c) (AddColumn o' c') x y h k e =
+vector_bytes_apart count (DropObject o) (DropObject o') x y h k e = let p = apart_16 o o' x y h.1 k.1 (ap (drop 1) e) in (ap DropObject p.0, p.1)
+vector_bytes_apart count (AddColumn o c) (AddColumn o' c') x y h k e =
     let p = apart_16 o o' (kind_byte c ∷ x) (kind_byte c' ∷ y) h.1 k.1 (ap (drop 1) e) in
     (ap₂ AddColumn p.0 (same_kind c c' (heads (kind_byte c) (kind_byte c') x y p.1)), ap (drop 1) p.1)
-vector_bytes-apart count (NoInMemory o) (NoInMemory o') x y h k e = let p = apart_16 o o' x y h.1 k.1 (ap (drop 1) e) in (ap NoInMemory p.0, p.1)
-vector_bytes-apart count EndThread EndThread x y h k e = (refl, ap (drop 1) e)
-vector_bytes-apart count a b x y h k e = absurd (omega (arith, ap (λ l. get_or l 0 0) e))
+vector_bytes_apart count (NoInMemory o) (NoInMemory o') x y h k e = let p = apart_16 o o' x y h.1 k.1 (ap (drop 1) e) in (ap NoInMemory p.0, p.1)
+vector_bytes_apart count EndThread EndThread x y h k e = (refl, ap (drop 1) e)
+vector_bytes_apart count a b x y h k e = absurd (omega (arith, ap (λ l. get_or l 0 0) e))
 
 -- the vectors of a record with so many
-pub vectors_bytes-same : (count : ℕ) (vs ws : List Vector) → length vs ≡ length ws → AreVectors count vs → AreVectors count ws → vectors_bytes vs ≡ vectors_bytes ws → vs ≡ ws
-vectors_bytes-same count vs ws n h k e = (apart_many vector_bytes (IsVector count) (vector_bytes-apart count) vs ws [] [] n h k (ap (λ l. l ++ []) e)).0
+pub vectors_bytes_same : (count : ℕ) (vs ws : List Vector) → length vs ≡ length ws → AreVectors count vs → AreVectors count ws → vectors_bytes vs ≡ vectors_bytes ws → vs ≡ ws
+vectors_bytes_same count vs ws n h k e = (apart_many vector_bytes (IsVector count) (vector_bytes_apart count) vs ws [] [] n h k (ap (λ l. l ++ []) e)).0

@@ -1,7 +1,7 @@
 -- What the entries of a log make, one after another: transactions, definitions and rows.
 use Rattle.std.specs.Prelude.{ℕ, Bool, true, false, ◌==◌, ◌&&◌, ◌||◌, if◌then◌else◌, List, [], ◌∷◌, ◌++◌, map, filter, slice_get, Option, Some, None}
 use Rattle.std.specs.List.{list_any, filter_map}
-use Rattle.adg_base.specs.Address.{Place}
+use Rattle.adg_base.specs.Address.{Place, place, same_place}
 use Rattle.adg_base.specs.declared.value.ColKind.{ColKind}
 use Rattle.adg_base.specs.declared.value.Value.{Value}
 use Rattle.adg_base.specs.declared.vector.Vector.{Vector}
@@ -23,12 +23,6 @@ pub record Table : Type 0 where
   pub extents : ℕ
   pub flag : Bool
   pub kinds : List ColKind
-
-abbrev pub place : ℕ → ℕ → ℕ → Place
-place o b s = record { obj = o; block = b; slot = s }
-
-abbrev pub same_place : Place → Place → Bool
-same_place a b = (a.obj == b.obj) && (a.block == b.block) && (a.slot == b.slot)
 
 -- rows with one change made
 abbrev pub changed : Change → Rows → Rows

@@ -1,7 +1,7 @@
 -- What an entry of the log notes for the column units, and the item that an end of a transaction or a
 -- change of a definition has in a flush.
 use Rattle.std.specs.Prelude.{ℕ, Bool, true, false, if◌then◌else◌, List, Option, Some, None}
-use Rattle.adg_base.specs.Address.{Place}
+use Rattle.adg_base.specs.Address.{Place, place}
 use Rattle.adg_base.specs.declared.vector.Vector.{Vector}
 use Rattle.adg_base.specs.declared.vector.Vector.TheVariants.{Begin, Put, Delete, Undo, Commit, Abort, Create, DropObject, AddColumn, NoInMemory, EndThread}
 use Rattle.adg_base.specs.declared.log.LogEntry.{LogEntry}
@@ -13,7 +13,7 @@ use Rattle.adg_base.specs.declared.node.Item.{Item}
 use Rattle.adg_base.specs.declared.node.Item.TheVariants as item
 use Rattle.adg_model.specs.declared.mined.Mined.{Mined}
 use Rattle.adg_model.specs.declared.mined.Mined.TheVariants as mined
-use Rattle.adg_model.specs.Database.{is_in_memory, place, table_at}
+use Rattle.adg_model.specs.Database.{is_in_memory, table_at}
 
 -- a touched address is noted where its object is in-memory at the SCN
 abbrev pub mined_at : List LogEntry → ℕ → ℕ → Place → Option Mined

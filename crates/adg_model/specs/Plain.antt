@@ -8,7 +8,8 @@ use Rattle.adg_base.specs.declared.command.Command.{Command}
 use Rattle.adg_base.specs.declared.command.Command.TheVariants as command
 use Rattle.adg_base.specs.declared.command.Select.{Select}
 use Rattle.adg_model.specs.Database.{Rows, Table, rows_at, table_at}
-use Rattle.adg_model.specs.Query.{answer_of, row_count, has_columns, has_types, value_cmp, by_order}
+use Rattle.adg_model.specs.Query.{answer_of, row_count, has_columns, has_types, by_order}
+use Rattle.adg_base.specs.Values.{value_cmp}
 use Rattle.adg_model.specs.declared.plain.PlainReply.{PlainReply}
 use Rattle.adg_model.specs.declared.plain.PlainReply.TheVariants as reply
 use Rattle.adg_model.specs.declared.plain.lines.Extreme.{Extreme}

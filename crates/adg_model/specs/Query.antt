@@ -1,11 +1,11 @@
 -- The meaning of a SELECT over the rows of an object: conditions, aggregates and groups.
 use Rattle.std.specs.Prelude.{ℕ, ◌-◌, ◌*◌, ℤ, pos, ◌+ℤ◌, Bool, true, false, not, nat_le, ◌&&◌, if◌then◌else◌, List, [], ◌∷◌, ◌++◌, length, map, filter, replicate, slice_get, Option, Some, None, unwrap_or, option_to_list}
 use Rattle.std.specs.List.{list_all, flat_map, filter_map, range_with_len}
-use Rattle.std.specs.Ordering.{nat_cmp, int_cmp, is_eq, is_lt, is_gt}
-use Rattle.std.specs.Cmp.Lexicographic.{slice_cmp}
+use Rattle.std.specs.Ordering.{is_eq, is_lt, is_gt}
 use Rattle.std.specs.declared.cmp.Ordering.{Ordering}
 use Rattle.std.specs.declared.cmp.Ordering.TheVariants.{Less, Equal, Greater}
-use Rattle.adg_base.specs.Address.{Place}
+use Rattle.adg_base.specs.Address.{Place, place, block_places}
+use Rattle.adg_base.specs.Values.{value_cmp, is_null, cell_of}
 use Rattle.adg_base.specs.declared.value.ColKind.{ColKind}
 use Rattle.adg_base.specs.declared.value.ColKind.TheVariants as kind
 use Rattle.adg_base.specs.declared.value.Value.{Value}
@@ -20,13 +20,10 @@ use Rattle.adg_base.specs.declared.command.What.{What}
 use Rattle.adg_base.specs.declared.command.What.TheVariants.{All, Aggregates}
 use Rattle.adg_base.specs.declared.command.Aggregate.{Aggregate}
 use Rattle.adg_base.specs.declared.command.Aggregate.TheVariants.{Count, Sum, Min, Max}
-use Rattle.adg_model.specs.Database.{Rows, Table, place}
+use Rattle.adg_model.specs.Database.{Rows, Table}
 use Rattle.adg_model.specs.Sound.{fits_kind}
 
--- the addresses of an object with so many extents, in order: 16 blocks an extent, 64 slots a block
-abbrev pub block_places : ℕ → ℕ → List Place
-block_places obj block = map (λ slot. place obj block slot) (range_with_len 0 64)
-
+-- the addresses of an object with so many extents, in order: 16 blocks an extent
 abbrev pub object_places : ℕ → ℕ → List Place
 object_places obj extents = flat_map (block_places obj) (range_with_len 0 (16 * extents))
 
@@ -45,23 +42,6 @@ table_rows rows obj table = map (padded (length table.kinds)) (object_rows rows 
 abbrev pub value_in : ℕ → List Value → Value
 value_in column row = unwrap_or (slice_get row (column - 1)) Null
 
--- values of one kind in their order, Null before all; texts compare by bytes
-abbrev pub value_cmp : Value → Value → Ordering
-value_cmp Null Null = Equal
-value_cmp Null (Int b) = Less
-value_cmp Null (Text b) = Less
-value_cmp (Int a) Null = Greater
-value_cmp (Int a) (Int b) = int_cmp a b
-value_cmp (Int a) (Text b) = Less
-value_cmp (Text a) Null = Greater
-value_cmp (Text a) (Int b) = Greater
-value_cmp (Text a) (Text b) = slice_cmp nat_cmp a b
-
-abbrev pub is_null : Value → Bool
-is_null Null = true
-is_null (Int n) = false
-is_null (Text t) = false
-
 abbrev pub allows : Op → Ordering → Bool
 allows op.Eq o = is_eq o
 allows op.Ne o = not (is_eq o)
@@ -76,11 +56,6 @@ meets row c = not (is_null (value_in c.column row)) && not (is_null c.literal) &
 
 abbrev pub filtered : List Condition → List (List Value) → List (List Value)
 filtered conditions rows = filter (λ row. list_all (meets row) conditions) rows
-
-abbrev pub cell_of : Value → Cell
-cell_of Null = cell.Null
-cell_of (Int n) = cell.Number n
-cell_of (Text t) = cell.Text t
 
 -- the values of a column that are not Null
 abbrev pub values_in : ℕ → List (List Value) → List Value

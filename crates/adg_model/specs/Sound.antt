@@ -17,7 +17,8 @@ use Rattle.adg_model.specs.declared.fault.RedoFault.{RedoFault}
 use Rattle.adg_model.specs.Spelling.{IsVector}
 use Rattle.adg_model.specs.Records.{thread_text, HasBadRecord}
 use Rattle.adg_model.specs.Log.{merged_log, numbered, ReceivedFrom}
-use Rattle.adg_model.specs.Database.{Database, Table, after, no_database, database, place, has_change}
+use Rattle.adg_model.specs.Database.{Database, Table, after, no_database, database, has_change}
+use Rattle.adg_base.specs.Address.{place}
 
 -- a check that has to hold, and what is checked after it
 abbrev pub demand : Bool → CheckKind → Option CheckKind → Option CheckKind

@@ -2,6 +2,8 @@
 //! `specs/`, and the types that they speak of beside those of `adg_base`.
 #![tactic(auto)]
 
+pub mod admission;
+pub mod comparison;
 pub mod delivery;
 pub mod fault;
 pub mod laws;

@@ -8,8 +8,9 @@ ghost use Rattle.adg_model.specs.Plain.{plain_reply, populate_reply, select_repl
 ghost use Rattle.adg_model.specs.Database.{database, rows_at, table_at};
 ghost use Rattle.adg_model.specs.Query.{answer_of, row_count};
 
+use crate::admission::{has_columns, has_types};
 use crate::plain::lines::{kept, result_lines};
-use crate::plain::meaning::{has_columns, has_types, rows_of};
+use crate::plain::meaning::rows_of;
 use crate::plain::walk::{PlainTable, committed, entries_upto, table};
 use adg_base::answer::Answer;
 use adg_base::command::{Command, Select};

@@ -6,13 +6,13 @@ use Rattle.std.proofs.lemmas.List.{take_at, drop_at, take-append-drop, length-ap
 use Rattle.std.proofs.lemmas.Nat.{be_bytes_2, be_bytes_8, from_be_bytes-to_be_bytes_2, from_be_bytes-to_be_bytes_8}
 use Rattle.change_vectors.specs.Reading.{byte_at, number_at, not_zero}
 use Rattle.adg_model.specs.Records.{IsByte}
-use Rattle.adg_model.proofs.Bytes.{IsBytes, IsBytes-drop, IsBytes-take}
-use Rattle.change_vectors.proofs.Readers.{IsBytes-rest, some_is, Takes, Reads}
+use Rattle.adg_model.proofs.Bytes.{IsBytes, IsBytes_drop, IsBytes_take}
+use Rattle.change_vectors.proofs.Readers.{IsBytes_rest, some_is, Takes, Reads}
 
 byte_takes : (bytes : List ℕ) (x : ℕ) (rest : List ℕ) → IsBytes bytes → byte_at bytes ≡ Some (x, rest) → Takes bytes (x ∷ []) rest × IsByte x
 byte_takes [] x rest fits e = absurd cc
 byte_takes (b ∷ bytes) x rest fits e =
-    subst (λ (y : ℕ × List ℕ). Takes (b ∷ bytes) (y.0 ∷ []) y.1 × IsByte y.0) (some_is (b, bytes) (x, rest) e) (record { parts = refl; rest_fits = IsBytes-rest b bytes fits }, fits 0)
+    subst (λ (y : ℕ × List ℕ). Takes (b ∷ bytes) (y.0 ∷ []) y.1 × IsByte y.0) (some_is (b, bytes) (x, rest) e) (record { parts = refl; rest_fits = IsBytes_rest b bytes fits }, fits 0)
 
 pub byte_reads : Reads byte_at (λ x. x ∷ []) IsByte
 byte_reads = record { takes = byte_takes; again = λ x rest good. refl }
@@ -56,8 +56,8 @@ number_takes w limit wide bytes n rest fits e =
     let long : byte_len w ≤ length bytes = ltb-false _ _ g.0 in
     let n-is : from_be_bytes w (take (byte_len w) bytes) ≡ n = ap (λ (p : ℕ × List ℕ). p.0) g.1 in
     let rest-is : drop (byte_len w) bytes ≡ rest = ap (λ (p : ℕ × List ℕ). p.1) g.1 in
-    let front : to_be_bytes w n ≡ take (byte_len w) bytes = rw (← n-is) (wide.back (take (byte_len w) bytes) (omega (arith, length-take (byte_len w) bytes)) (IsBytes-take (byte_len w) bytes fits)) in
-    (record { parts = rw (front, ← rest-is) (sym (take-append-drop (byte_len w) bytes)); rest_fits = rw (← rest-is) (IsBytes-drop (byte_len w) bytes fits) }, rw (← n-is) (wide.below (take (byte_len w) bytes) (IsBytes-take (byte_len w) bytes fits)))
+    let front : to_be_bytes w n ≡ take (byte_len w) bytes = rw (← n-is) (wide.back (take (byte_len w) bytes) (omega (arith, length-take (byte_len w) bytes)) (IsBytes_take (byte_len w) bytes fits)) in
+    (record { parts = rw (front, ← rest-is) (sym (take-append-drop (byte_len w) bytes)); rest_fits = rw (← rest-is) (IsBytes_drop (byte_len w) bytes fits) }, rw (← n-is) (wide.below (take (byte_len w) bytes) (IsBytes_take (byte_len w) bytes fits)))
 
 number_again : (w : Width) (limit : ℕ) (wide : IsWide w limit) (n : ℕ) (rest : List ℕ) → n < limit → number_at w (to_be_bytes w n ++ rest) ≡ Some (n, rest)
 number_again w limit wide n rest lt =

@@ -6,8 +6,8 @@ use Rattle.std.proofs.lemmas.List.Concat.{flat_map-cons}
 use Rattle.adg_model.proofs.Bytes.{IsBytes}
 use Rattle.change_vectors.specs.Reading.{◌>>=◌, many_at}
 
-pub IsBytes-rest : (b : ℕ) (bytes : List ℕ) → IsBytes (b ∷ bytes) → IsBytes bytes
-IsBytes-rest b bytes h i = h (suc i)
+pub IsBytes_rest : (b : ℕ) (bytes : List ℕ) → IsBytes (b ∷ bytes) → IsBytes bytes
+IsBytes_rest b bytes h i = h (suc i)
 
 abbrev pub some : {A : Type 0} → A → Option A
 some x = Some x
@@ -25,8 +25,8 @@ pub record Takes (bytes text rest : List ℕ) : Type 0 where
   pub parts : bytes ≡ text ++ rest
   pub rest_fits : IsBytes rest
 
-pub Takes-then : (a x b y c : List ℕ) → Takes a x b → Takes b y c → Takes a (x ++ y) c
-Takes-then a x b y c p q = record { parts = p.parts ∙ ap (λ (t : List ℕ). x ++ t) q.parts ∙ sym (append_assoc x y c); rest_fits = q.rest_fits }
+pub Takes_then : (a x b y c : List ℕ) → Takes a x b → Takes b y c → Takes a (x ++ y) c
+Takes_then a x b y c p q = record { parts = p.parts ∙ ap (λ (t : List ℕ). x ++ t) q.parts ∙ sym (append_assoc x y c); rest_fits = q.rest_fits }
 
 pub record Reads {X : Type 0} (read : List ℕ → Option (X × List ℕ)) (spell : X → List ℕ) (Is : X → Type 0) : Type 0 where
   pub takes : (bytes : List ℕ) (x : X) (rest : List ℕ) → IsBytes bytes → read bytes ≡ Some (x, rest) → Takes bytes (spell x) rest × Is x
@@ -68,7 +68,7 @@ many_take {X = X} read spell Is reads (suc n) bytes xs rest fits e =
     let a = step read spell Is reads (λ first. many_at read n first.1 >>= λ others. Some (first.0 ∷ others.0, others.1)) bytes (xs, rest) fits e in
     let b = bind_some (many_at read n a.rest) (λ others. Some (a.value ∷ others.0, others.1)) (xs, rest) a.later in
     let second = many_take read spell Is reads n a.rest b.0.0 b.0.1 a.took.rest_fits b.1 in
-    let both = Takes-then bytes (spell a.value) a.rest (flat_map spell b.0.0) b.0.1 a.took second.0 in
+    let both = Takes_then bytes (spell a.value) a.rest (flat_map spell b.0.0) b.0.1 a.took second.0 in
     subst (λ (y : List X × List ℕ). Takes bytes (flat_map spell y.0) y.1 × AreMany Is (suc n) y.0) (some_is (a.value ∷ b.0.0, b.0.1) (xs, rest) b.2) (rw flat_map-cons both, (ap suc second.1.0, (a.good, second.1.1)))
 
 many_again : {X : Type 0} (read : List ℕ → Option (X × List ℕ)) (spell : X → List ℕ) (Is : X → Type 0) (reads : Reads read spell Is) (xs : List X) (rest : List ℕ) → AllByRecursion Is xs → many_at read (length xs) (flat_map spell xs ++ rest) ≡ Some (xs, rest)

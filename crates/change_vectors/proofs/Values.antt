@@ -15,8 +15,8 @@ use Rattle.adg_base.specs.declared.value.Value.{Value}
 use Rattle.adg_base.specs.declared.value.Value.TheVariants.{Null, Int, Text}
 use Rattle.adg_model.specs.Spelling.{flag_byte, kind_byte, value_bytes, row_bytes, IsValue, IsRow}
 use Rattle.change_vectors.specs.Reading.{number_at, flag_of, kind_of, flag_at, kind_at, width_at, int_at, text_at, value_at, row_at, columns_at, many_at}
-use Rattle.adg_model.proofs.Bytes.{IsBytes, IsBytes-drop}
-use Rattle.change_vectors.proofs.Readers.{IsBytes-rest, some_is, bind_some, Takes, Takes-then, Reads, step, many_reads}
+use Rattle.adg_model.proofs.Bytes.{IsBytes, IsBytes_drop}
+use Rattle.change_vectors.proofs.Readers.{IsBytes_rest, some_is, bind_some, Takes, Takes_then, Reads, step, many_reads}
 use Rattle.change_vectors.proofs.Fields.{wide64, number_reads, when_some}
 
 -- ---- tests
@@ -66,7 +66,7 @@ flag_takes [] flag rest fits e = absurd cc
 flag_takes (b ∷ bytes) flag rest fits e =
     let f = bind_some (flag_of b) (λ x. Some (x, bytes)) (flag, rest) e in
     let is = flag_is b f.0 f.1 in
-    subst (λ (y : Bool × List ℕ). Takes (b ∷ bytes) (flag_bytes y.0) y.1 × Always y.0) (some_is (f.0, bytes) (flag, rest) f.2) (record { parts = rw is refl; rest_fits = IsBytes-rest b bytes fits }, tt)
+    subst (λ (y : Bool × List ℕ). Takes (b ∷ bytes) (flag_bytes y.0) y.1 × Always y.0) (some_is (f.0, bytes) (flag, rest) f.2) (record { parts = rw is refl; rest_fits = IsBytes_rest b bytes fits }, tt)
 
 pub flag_reads : Reads flag_at flag_bytes Always
 unfolding flag_at
@@ -78,7 +78,7 @@ kind_takes [] k rest fits e = absurd cc
 kind_takes (b ∷ bytes) k rest fits e =
     let f = bind_some (kind_of b) (λ x. Some (x, bytes)) (k, rest) e in
     let is = kind_is b f.0 f.1 in
-    subst (λ (y : ColKind × List ℕ). Takes (b ∷ bytes) (kind_bytes y.0) y.1 × Always y.0) (some_is (f.0, bytes) (k, rest) f.2) (record { parts = rw is refl; rest_fits = IsBytes-rest b bytes fits }, tt)
+    subst (λ (y : ColKind × List ℕ). Takes (b ∷ bytes) (kind_bytes y.0) y.1 × Always y.0) (some_is (f.0, bytes) (k, rest) f.2) (record { parts = rw is refl; rest_fits = IsBytes_rest b bytes fits }, tt)
 
 pub kind_reads : Reads kind_at kind_bytes Always
 unfolding kind_at
@@ -95,7 +95,7 @@ width_takes [] n rest fits e = absurd cc
 width_takes (b ∷ bytes) n rest fits e =
     let g = when_some (leb 1 b && leb b 16) (b, bytes) (n, rest) e in
     let p = and_parts (leb 1 b) (leb b 16) g.0 in
-    subst (λ (y : ℕ × List ℕ). Takes (b ∷ bytes) (y.0 ∷ []) y.1 × IsWidth y.0) g.1 (record { parts = refl; rest_fits = IsBytes-rest b bytes fits }, (leb-true 1 b p.0, leb-true b 16 p.1))
+    subst (λ (y : ℕ × List ℕ). Takes (b ∷ bytes) (y.0 ∷ []) y.1 × IsWidth y.0) g.1 (record { parts = refl; rest_fits = IsBytes_rest b bytes fits }, (leb-true 1 b p.0, leb-true b 16 p.1))
 
 width_again : (n : ℕ) (rest : List ℕ) → IsWidth n → width_at (n ∷ rest) ≡ Some (n, rest)
 unfolding width_at
@@ -130,7 +130,7 @@ text_takes (n ∷ bytes) v rest fits e =
     let long : n ≤ length bytes = ltb-false _ _ g.0 in
     let len : length (take n bytes) ≡ n = omega (arith, length-take n bytes) in
     let spelled : 2 ∷ n ∷ bytes ≡ value_bytes (Text (take n bytes)) ++ drop n bytes = rw (len, take-append-drop) refl in
-    subst (λ (y : Value × List ℕ). Takes (2 ∷ n ∷ bytes) (value_bytes y.0) y.1 × IsValue y.0) t.1 (record { parts = spelled; rest_fits = IsBytes-drop n bytes (IsBytes-rest n bytes fits) }, t.0)
+    subst (λ (y : Value × List ℕ). Takes (2 ∷ n ∷ bytes) (value_bytes y.0) y.1 × IsValue y.0) t.1 (record { parts = spelled; rest_fits = IsBytes_drop n bytes (IsBytes_rest n bytes fits) }, t.0)
 
 text_again : (text rest : List ℕ) → is_text text ≡ true → text_at (length text ∷ text ++ rest) ≡ Some (Text text, rest)
 unfolding text_at
@@ -152,7 +152,7 @@ value_takes : (bytes : List ℕ) (v : Value) (rest : List ℕ) → IsBytes bytes
 unfolding value_at
 value_takes [] v rest fits e = absurd cc
 value_takes (tag ∷ bytes) v rest fits e =
-    let after = IsBytes-rest tag bytes fits in
+    let after = IsBytes_rest tag bytes fits in
     let P : ℕ → Type 0 = λ t. Takes (t ∷ bytes) (value_bytes v) rest × IsValue v in
     choose P tag 0 (Some (Null, bytes)) (cond (eqb tag 1) (int_at bytes) (cond (eqb tag 2) (text_at bytes) None)) (v, rest) (λ is. null_takes bytes v rest after is)
     (choose P tag 1 (int_at bytes) (cond (eqb tag 2) (text_at bytes) None) (v, rest) (λ is. int_takes bytes v rest after is)
@@ -169,7 +169,7 @@ row_takes bytes row rest fits e =
     let w = step width_at (λ n. n ∷ []) IsWidth width_reads (λ n. many_at value_at n.0 n.1) bytes (row, rest) fits e in
     let values = many_reads value_at value_bytes IsValue value_reads w.value in
     let t = values.takes w.rest row rest w.took.rest_fits w.later in
-    let both = Takes-then bytes (w.value ∷ []) w.rest (flat_map value_bytes row) rest w.took t.0 in
+    let both = Takes_then bytes (w.value ∷ []) w.rest (flat_map value_bytes row) rest w.took t.0 in
     let len : length row ≡ w.value = t.1.0 in
     (subst (λ (n : ℕ). Takes bytes (n ∷ flat_map value_bytes row) rest) (sym len) both, record { some = omega (arith, w.good); few = omega (arith, w.good); values = t.1.1 })
 
@@ -194,7 +194,7 @@ columns_takes bytes columns rest fits e =
     let w = step width_at (λ n. n ∷ []) IsWidth width_reads (λ n. many_at kind_at n.0 n.1) bytes (columns, rest) fits e in
     let kinds = many_reads kind_at kind_bytes Always kind_reads w.value in
     let t = kinds.takes w.rest columns rest w.took.rest_fits w.later in
-    let both = Takes-then bytes (w.value ∷ []) w.rest (flat_map kind_bytes columns) rest w.took t.0 in
+    let both = Takes_then bytes (w.value ∷ []) w.rest (flat_map kind_bytes columns) rest w.took t.0 in
     let len : length columns ≡ w.value = t.1.0 in
     (subst (λ (n : ℕ). Takes bytes (n ∷ flat_map kind_bytes columns) rest) (sym len) both, subst IsWidth (sym len) w.good)
 

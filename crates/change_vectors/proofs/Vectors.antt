@@ -11,7 +11,7 @@ use Rattle.change_vectors.specs.declared.field.Change.{Change}
 use Rattle.change_vectors.specs.Reading.{◌>>=◌, byte_at, number_at, flag_at, kind_at, change_at, row_at, columns_at, begin_at, put_at, delete_at, undo_at, commit_at, abort_at, extents_at, create_at, drop_object_at, add_column_at, no_in_memory_at, end_at, fields_at, vector_at}
 use Rattle.adg_model.specs.Records.{IsByte}
 use Rattle.adg_model.proofs.Bytes.{IsBytes}
-use Rattle.change_vectors.proofs.Readers.{IsBytes-rest, some_is, Takes, Takes-then, Reads, step}
+use Rattle.change_vectors.proofs.Readers.{IsBytes_rest, some_is, Takes, Takes_then, Reads, step}
 use Rattle.change_vectors.proofs.Fields.{byte_reads, wide16, wide64, number_reads, name_at, name_reads, when_some}
 use Rattle.change_vectors.proofs.Values.{choose, Always, flag_bytes, kind_bytes, flag_reads, kind_reads, row_reads, columns_bytes, AreColumns, columns_reads}
 
@@ -48,9 +48,9 @@ change_takes bytes c rest fits e =
     let s2 = step (name_at w16) obj_bytes IsObj obj_reads (λ obj. number_at w16 obj.1 >>= λ block. byte_at block.1 >>= λ slot. Some (record { txn = s1.value; obj = obj.0; block = block.0; slot = slot.0 }, slot.1)) s1.rest (c, rest) s1.took.rest_fits s1.later in
     let s3 = step (number_at w16) (to_be_bytes w16) IsBlock block_reads (λ block. byte_at block.1 >>= λ slot. Some (record { txn = s1.value; obj = s2.value; block = block.0; slot = slot.0 }, slot.1)) s2.rest (c, rest) s2.took.rest_fits s2.later in
     let s4 = step byte_at (λ x. x ∷ []) IsByte byte_reads (λ slot. Some (record { txn = s1.value; obj = s2.value; block = s3.value; slot = slot.0 }, slot.1)) s3.rest (c, rest) s3.took.rest_fits s3.later in
-    let t2 = Takes-then bytes (txn_bytes s1.value) s1.rest (obj_bytes s2.value) s2.rest s1.took s2.took in
-    let t3 = Takes-then bytes (txn_bytes s1.value ++ obj_bytes s2.value) s2.rest (to_be_bytes w16 s3.value) s3.rest t2 s3.took in
-    let t4 = Takes-then bytes (txn_bytes s1.value ++ obj_bytes s2.value ++ to_be_bytes w16 s3.value) s3.rest (s4.value ∷ []) s4.rest t3 s4.took in
+    let t2 = Takes_then bytes (txn_bytes s1.value) s1.rest (obj_bytes s2.value) s2.rest s1.took s2.took in
+    let t3 = Takes_then bytes (txn_bytes s1.value ++ obj_bytes s2.value) s2.rest (to_be_bytes w16 s3.value) s3.rest t2 s3.took in
+    let t4 = Takes_then bytes (txn_bytes s1.value ++ obj_bytes s2.value ++ to_be_bytes w16 s3.value) s3.rest (s4.value ∷ []) s4.rest t3 s4.took in
     let made : Change = record { txn = s1.value; obj = s2.value; block = s3.value; slot = s4.value } in
     taken bytes (made, s4.rest) (c, rest) (some_is (made, s4.rest) (c, rest) s4.later) (t4, record { good_txn = s1.good; good_obj = s2.good; good_block = s3.good; good_slot = s4.good })
 
@@ -120,7 +120,7 @@ unfolding put_at
 put_takes count bytes v rest fits e =
     let s1 = step change_at bytes_of IsGood change_reads (λ c. row_at c.1 >>= λ row. Some (Put c.0.txn c.0.obj c.0.block c.0.slot row.0, row.1)) bytes (v, rest) fits e in
     let s2 = step row_at row_bytes IsRow row_reads (λ row. Some (Put s1.value.txn s1.value.obj s1.value.block s1.value.slot row.0, row.1)) s1.rest (v, rest) s1.took.rest_fits s1.later in
-    let both = Takes-then bytes (bytes_of s1.value) s1.rest (row_bytes s2.value) s2.rest s1.took s2.took in
+    let both = Takes_then bytes (bytes_of s1.value) s1.rest (row_bytes s2.value) s2.rest s1.took s2.took in
     behind count 0x02 bytes (Put s1.value.txn s1.value.obj s1.value.block s1.value.slot s2.value, s2.rest) (v, rest) (some_is (Put s1.value.txn s1.value.obj s1.value.block s1.value.slot s2.value, s2.rest) (v, rest) s2.later) (tagged 0x02 bytes (bytes_of s1.value ++ row_bytes s2.value) s2.rest both, (s1.good, s2.good))
 
 put_again : (c : Change) (row : List Value) (rest : List ℕ) → IsGood c → IsRow row → put_at ((bytes_of c ++ row_bytes row) ++ rest) ≡ Some (Put c.txn c.obj c.block c.slot row, rest)
@@ -133,7 +133,7 @@ unfolding commit_at
 commit_takes count bytes v rest fits e =
     let s1 = step (name_at w64) txn_bytes IsTxn txn_reads (λ txn. flag_at txn.1 >>= λ flag. Some (Commit txn.0 flag.0, flag.1)) bytes (v, rest) fits e in
     let s2 = step flag_at flag_bytes Always flag_reads (λ flag. Some (Commit s1.value flag.0, flag.1)) s1.rest (v, rest) s1.took.rest_fits s1.later in
-    let both = Takes-then bytes (txn_bytes s1.value) s1.rest (flag_bytes s2.value) s2.rest s1.took s2.took in
+    let both = Takes_then bytes (txn_bytes s1.value) s1.rest (flag_bytes s2.value) s2.rest s1.took s2.took in
     behind count 0x05 bytes (Commit s1.value s2.value, s2.rest) (v, rest) (some_is (Commit s1.value s2.value, s2.rest) (v, rest) s2.later) (tagged 0x05 bytes (txn_bytes s1.value ++ flag_bytes s2.value) s2.rest both, s1.good)
 
 commit_again : (txn : ℕ) (flag : Bool) (rest : List ℕ) → IsTxn txn → commit_at ((txn_bytes txn ++ flag_bytes flag) ++ rest) ≡ Some (Commit txn flag, rest)
@@ -166,7 +166,7 @@ unfolding add_column_at
 add_column_takes count bytes v rest fits e =
     let s1 = step (name_at w16) obj_bytes IsObj obj_reads (λ obj. kind_at obj.1 >>= λ k. Some (AddColumn obj.0 k.0, k.1)) bytes (v, rest) fits e in
     let s2 = step kind_at kind_bytes Always kind_reads (λ k. Some (AddColumn s1.value k.0, k.1)) s1.rest (v, rest) s1.took.rest_fits s1.later in
-    let both = Takes-then bytes (obj_bytes s1.value) s1.rest (kind_bytes s2.value) s2.rest s1.took s2.took in
+    let both = Takes_then bytes (obj_bytes s1.value) s1.rest (kind_bytes s2.value) s2.rest s1.took s2.took in
     behind count 0x09 bytes (AddColumn s1.value s2.value, s2.rest) (v, rest) (some_is (AddColumn s1.value s2.value, s2.rest) (v, rest) s2.later) (tagged 0x09 bytes (obj_bytes s1.value ++ kind_bytes s2.value) s2.rest both, s1.good)
 
 add_column_again : (obj : ℕ) (k : ColKind) (rest : List ℕ) → IsObj obj → add_column_at ((obj_bytes obj ++ kind_bytes k) ++ rest) ≡ Some (AddColumn obj k, rest)
@@ -203,9 +203,9 @@ create_takes count bytes v rest fits e =
     let s2 = step extents_at (to_be_bytes w16) AreExtents extents_reads (λ extents. flag_at extents.1 >>= λ flag. columns_at flag.1 >>= λ columns. Some (Create s1.value extents.0 flag.0 columns.0, columns.1)) s1.rest (v, rest) s1.took.rest_fits s1.later in
     let s3 = step flag_at flag_bytes Always flag_reads (λ flag. columns_at flag.1 >>= λ columns. Some (Create s1.value s2.value flag.0 columns.0, columns.1)) s2.rest (v, rest) s2.took.rest_fits s2.later in
     let s4 = step columns_at columns_bytes AreColumns columns_reads (λ columns. Some (Create s1.value s2.value s3.value columns.0, columns.1)) s3.rest (v, rest) s3.took.rest_fits s3.later in
-    let t3 = Takes-then s2.rest (flag_bytes s3.value) s3.rest (columns_bytes s4.value) s4.rest s3.took s4.took in
-    let t2 = Takes-then bytes (obj_bytes s1.value) s1.rest (to_be_bytes w16 s2.value) s2.rest s1.took s2.took in
-    let t4 = Takes-then bytes (obj_bytes s1.value ++ to_be_bytes w16 s2.value) s2.rest (flag_bytes s3.value ++ columns_bytes s4.value) s4.rest t2 t3 in
+    let t3 = Takes_then s2.rest (flag_bytes s3.value) s3.rest (columns_bytes s4.value) s4.rest s3.took s4.took in
+    let t2 = Takes_then bytes (obj_bytes s1.value) s1.rest (to_be_bytes w16 s2.value) s2.rest s1.took s2.took in
+    let t4 = Takes_then bytes (obj_bytes s1.value ++ to_be_bytes w16 s2.value) s2.rest (flag_bytes s3.value ++ columns_bytes s4.value) s4.rest t2 t3 in
     let good : IsCreate s1.value s2.value s4.value = record { good_obj = s1.good; some_extents = s2.good.0; few_extents = s2.good.1; some_columns = s4.good.0; few_columns = s4.good.1 } in
     behind count 0x07 bytes (Create s1.value s2.value s3.value s4.value, s4.rest) (v, rest) (some_is (Create s1.value s2.value s3.value s4.value, s4.rest) (v, rest) s4.later) (tagged 0x07 bytes (obj_bytes s1.value ++ to_be_bytes w16 s2.value ++ (flag_bytes s3.value ++ columns_bytes s4.value)) s4.rest t4, good)
 
@@ -246,7 +246,7 @@ fields_take count tag bytes v rest fits e =
 vector_takes : (count : ℕ) (bytes : List ℕ) (v : Vector) (rest : List ℕ) → IsBytes bytes → vector_at count bytes ≡ Some (v, rest) → Takes bytes (vector_bytes v) rest × IsVector count v
 unfolding vector_at
 vector_takes count [] v rest fits e = absurd cc
-vector_takes count (tag ∷ bytes) v rest fits e = fields_take count tag bytes v rest (IsBytes-rest tag bytes fits) e
+vector_takes count (tag ∷ bytes) v rest fits e = fields_take count tag bytes v rest (IsBytes_rest tag bytes fits) e
 
 vector_again : (count : ℕ) (v : Vector) (rest : List ℕ) → IsVector count v → vector_at count (vector_bytes v ++ rest) ≡ Some (v, rest)
 unfolding vector_at fields_at

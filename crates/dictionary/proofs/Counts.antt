@@ -2,15 +2,14 @@
 use Rattle.std.proofs.Common.{◌≡◌, ℕ, ◌+◌, ◌-◌, Bool, true, false, cond, ◌&&◌, nat_eq, List, Option, Some, None, refl, sym, ap, ◌∙◌, subst, is_some, eq-eqb}
 use Rattle.std.proofs.lemmas.Bool.{eqb-true, and_parts, cond-true, cond-false, true≢false, false≢true}
 use Rattle.std.specs.Option.{option_map}
-use Rattle.adg_base.specs.Address.{Place}
-use Rattle.adg_model.specs.Database.{same_place}
+use Rattle.adg_base.specs.Address.{Place, same_place}
 use Rattle.dictionary.specs.declared.change.Change.{Change}
 use Rattle.dictionary.specs.declared.change.Pending.{Pending}
 use Rattle.dictionary.specs.Pending.{kept_at, change_of, same_change, one_less, one_more, SetsAt, earlier_at, HasChain}
-use Rattle.dictionary.proofs.Chains.{HasChain-less, HasChain-ends, HasChain-known}
+use Rattle.dictionary.proofs.Chains.{HasChain_less, HasChain_ends, HasChain_known}
 
-same_change-true : (a b : Change) → same_change a b ≡ true → a ≡ b
-same_change-true a b same =
+same_change_true : (a b : Change) → same_change a b ≡ true → a ≡ b
+same_change_true a b same =
     let first = and_parts _ _ same in
     let second = and_parts _ _ first.1 in
     let third = and_parts _ _ second.1 in
@@ -35,7 +34,7 @@ sets_as_it_was old inside new change shown same none q = by_test (same_change ch
 
     by_test : (b : Bool) → same_change change q ≡ b → kept_at new q ≡ cond b (one_less (kept_at old change)) (kept_at old q)
     by_test true e =
-        let at_q : kept_at old q ≡ None = ap (kept_at old) (sym (same_change-true change q e)) ∙ here in
+        let at_q : kept_at old q ≡ None = ap (kept_at old) (sym (same_change_true change q e)) ∙ here in
         ap (λ (l : List (Change × Pending)). kept_at l q) (same ∙ shown) ∙ at_q ∙ sym (ap one_less here)
     by_test false e = ap (λ (l : List (Change × Pending)). kept_at l q) (same ∙ shown)
 
@@ -59,30 +58,30 @@ one_less_than old inside change was count shown had e =
     ∙ ap one_less (had ∙ ap (λ (l : List (Change × Pending)). kept_at l change) shown)
 
 -- what is kept of another transaction is of another change
-pub same_change-at : (txn : ℕ) (a : Place) (q : Change) → nat_eq txn q.txn ≡ false → same_change (change_of txn a) q ≡ false
-same_change-at txn a q apart = rw apart refl
+pub same_change_at : (txn : ℕ) (a : Place) (q : Change) → nat_eq txn q.txn ≡ false → same_change (change_of txn a) q ≡ false
+same_change_at txn a q apart = rw apart refl
 
 and_assoc : (a b c : Bool) → (a && (b && c)) ≡ ((a && b) && c)
 and_assoc true b c = refl
 and_assoc false b c = refl
 
-pub same_change-place : (txn : ℕ) (a p : Place) → same_change (change_of txn a) (change_of txn p) ≡ same_place a p
-same_change-place txn a p =
+pub same_change_place : (txn : ℕ) (a p : Place) → same_change (change_of txn a) (change_of txn p) ≡ same_place a p
+same_change_place txn a p =
     rw (eq-eqb txn txn refl) (and_assoc (nat_eq a.obj p.obj) (nat_eq a.block p.block) (nat_eq a.slot p.slot))
 
 -- an entry is taken out of a chain
-pub earlier-removed : (old new : List (Change × Pending)) (txn : ℕ) (a : Place) → ((q : Change) → kept_at new q ≡ cond (same_change (change_of txn a) q) None (kept_at old q)) → (p : Place) → earlier_at new txn p ≡ cond (same_place a p) None (earlier_at old txn p)
-earlier-removed old new txn a sets p = by_test (same_place a p) refl
+pub earlier_removed : (old new : List (Change × Pending)) (txn : ℕ) (a : Place) → ((q : Change) → kept_at new q ≡ cond (same_change (change_of txn a) q) None (kept_at old q)) → (p : Place) → earlier_at new txn p ≡ cond (same_place a p) None (earlier_at old txn p)
+earlier_removed old new txn a sets p = by_test (same_place a p) refl
   where
     at_p : kept_at new (change_of txn p) ≡ cond (same_place a p) None (kept_at old (change_of txn p))
-    at_p = sets (change_of txn p) ∙ ap (λ (b : Bool). cond b None (kept_at old (change_of txn p))) (same_change-place txn a p)
+    at_p = sets (change_of txn p) ∙ ap (λ (b : Bool). cond b None (kept_at old (change_of txn p))) (same_change_place txn a p)
 
     by_test : (b : Bool) → same_place a p ≡ b → earlier_at new txn p ≡ cond b None (earlier_at old txn p)
     by_test true e = ap (option_map (λ (k : Pending). k.earlier)) (at_p ∙ cond-true (same_place a p) None (kept_at old (change_of txn p)) e)
     by_test false e = ap (option_map (λ (k : Pending). k.earlier)) (at_p ∙ cond-false (same_place a p) None (kept_at old (change_of txn p)) e)
 
-pub kept-of_others : (old new : List (Change × Pending)) (txn : ℕ) (a : Place) → ((q : Change) → kept_at new q ≡ cond (same_change (change_of txn a) q) None (kept_at old q)) → (q : Change) → nat_eq txn q.txn ≡ false → kept_at new q ≡ kept_at old q
-kept-of_others old new txn a sets q apart = sets q ∙ cond-false (same_change (change_of txn a) q) None (kept_at old q) (same_change-at txn a q apart)
+pub kept_of_others : (old new : List (Change × Pending)) (txn : ℕ) (a : Place) → ((q : Change) → kept_at new q ≡ cond (same_change (change_of txn a) q) None (kept_at old q)) → (q : Change) → nat_eq txn q.txn ≡ false → kept_at new q ≡ kept_at old q
+kept_of_others old new txn a sets q apart = sets q ∙ cond-false (same_change (change_of txn a) q) None (kept_at old q) (same_change_at txn a q apart)
 
 -- where a transaction has no chain left, its changes are all forgotten
 pub forgotten : (old new : List (Change × Pending)) (txn : ℕ) → ((p : Place) → is_some (earlier_at new txn p) ≡ false) → ((q : Change) → nat_eq txn q.txn ≡ false → kept_at new q ≡ kept_at old q) → (q : Change) → kept_at new q ≡ cond (nat_eq txn q.txn) None (kept_at old q)
@@ -109,13 +108,13 @@ left_at_first old inside txn latest shown h =
 pub left_after_one : (old now new : List (Change × Pending)) (txn : ℕ) (next : Option Place) (a : Place) (was : Pending) → next ≡ Some a → kept_at now (change_of txn a) ≡ Some was
     → ((q : Change) → kept_at new q ≡ cond (same_change (change_of txn a) q) None (kept_at now q)) → IsLeft old now txn next → IsLeft old new txn was.earlier
 left_after_one old now new txn next a was is had sets h = (
-  HasChain-less (earlier_at now txn) (earlier_at new txn) a was.earlier (ap (option_map (λ (k : Pending). k.earlier)) had) (earlier-removed now new txn a sets) (subst (HasChain (earlier_at now txn)) is h.0),
-  λ q apart. kept-of_others now new txn a sets q apart ∙ h.1 q apart,
+  HasChain_less (earlier_at now txn) (earlier_at new txn) a was.earlier (ap (option_map (λ (k : Pending). k.earlier)) had) (earlier_removed now new txn a sets) (subst (HasChain (earlier_at now txn)) is h.0),
+  λ q apart. kept_of_others now new txn a sets q apart ∙ h.1 q apart,
 )
 
 pub left_at_end : (old now : List (Change × Pending)) (txn : ℕ) (next : Option Place) → next ≡ None → IsLeft old now txn next → (q : Change) → kept_at now q ≡ cond (nat_eq txn q.txn) None (kept_at old q)
-left_at_end old now txn next is h = forgotten old now txn (HasChain-ends (earlier_at now txn) (subst (HasChain (earlier_at now txn)) is h.0)) h.1
+left_at_end old now txn next is h = forgotten old now txn (HasChain_ends (earlier_at now txn) (subst (HasChain (earlier_at now txn)) is h.0)) h.1
 
 pub left_at_known : (old now : List (Change × Pending)) (txn : ℕ) (next : Option Place) (a : Place) → next ≡ Some a → kept_at now (change_of txn a) ≡ None → IsLeft old now txn next → ⊥
 left_at_known old now txn next a is none h =
-    false≢true (sym (ap is_some (ap (option_map (λ (k : Pending). k.earlier)) none)) ∙ HasChain-known (earlier_at now txn) a (subst (HasChain (earlier_at now txn)) is h.0))
+    false≢true (sym (ap is_some (ap (option_map (λ (k : Pending). k.earlier)) none)) ∙ HasChain_known (earlier_at now txn) a (subst (HasChain (earlier_at now txn)) is h.0))

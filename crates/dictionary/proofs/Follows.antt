@@ -14,29 +14,29 @@ use Rattle.adg_model.specs.declared.fault.CheckKind.{CheckKind}
 use Rattle.adg_model.specs.declared.fault.CheckKind.TheVariants.{BadRow, NothingToUndo}
 use Rattle.adg_model.specs.Spelling.{IsVector}
 use Rattle.adg_model.specs.Log.{numbered}
-use Rattle.adg_model.specs.Database.{Database, Table, after, no_database, walked, database, set_at, place, is_in_memory, has_change}
+use Rattle.adg_model.specs.Database.{Database, Table, after, no_database, walked, database, set_at, is_in_memory, has_change}
+use Rattle.adg_base.specs.Address.{place, Place}
 use Rattle.adg_model.specs.Defined.{IsDefinition, AreDefined}
 use Rattle.adg_model.specs.Sound.{SoundFrom, ScnsWithin, refusal, demand, on_table, on_change, is_running, has_address, fits_row, same_flag}
-use Rattle.adg_model.proofs.LogLaws.{numbered-append}
+use Rattle.adg_model.proofs.LogLaws.{numbered_append}
 use Rattle.dictionary.specs.declared.history.Step.{Step}
 use Rattle.dictionary.specs.Transactions.{Held, TracksIn}
 use Rattle.dictionary.specs.Objects.{steps_of, AddsStep, Catalogs}
 use Rattle.dictionary.specs.Standing.{Known, StandsFor, MayFollow, IsAnswer}
 use Rattle.dictionary.specs.declared.refused.RedoRefused.{RedoRefused}
 use Rattle.dictionary.specs.declared.refused.RedoRefused.TheVariants.{Check, Memory}
-use Rattle.adg_base.specs.Address.{Place}
 use Rattle.dictionary.specs.Checks.{IsPlaced, IsMisplaced}
 use Rattle.dictionary.specs.History.{last_from}
-use Rattle.dictionary.proofs.Tracking.{set_at-here, set_at-apart}
-use Rattle.dictionary.proofs.Catalogs.{database-push, Catalogs-same, Catalogs-step}
+use Rattle.dictionary.proofs.Tracking.{set_at_here, set_at_apart}
+use Rattle.dictionary.proofs.Catalogs.{database_push, Catalogs_same, Catalogs_step}
 
-sound-push : (db : Database) (log : List LogEntry) (e : LogEntry) → SoundFrom db log → IsVector 1 e.vector → refusal (walked db log) e.vector ≡ None → SoundFrom db (log ++ e ∷ [])
-sound-push db [] e h v r = (v, r, tt)
-sound-push db (x ∷ xs) e h v r = (h.0, h.1, sound-push (after db x.vector) xs e h.2 v r)
+sound_push : (db : Database) (log : List LogEntry) (e : LogEntry) → SoundFrom db log → IsVector 1 e.vector → refusal (walked db log) e.vector ≡ None → SoundFrom db (log ++ e ∷ [])
+sound_push db [] e h v r = (v, r, tt)
+sound_push db (x ∷ xs) e h v r = (h.0, h.1, sound_push (after db x.vector) xs e h.2 v r)
 
-scns-push : (low high : ℕ) (log : List LogEntry) (e : LogEntry) → low ≤ e.scn → ScnsWithin low high log → AllByRecursion (λ (x : LogEntry). x.scn ≤ e.scn) log → ScnsWithin low e.scn (log ++ e ∷ [])
-scns-push low high [] e le h k = (le, omega arith, tt)
-scns-push low high (x ∷ xs) e le h k = (h.0, k.0, scns-push x.scn high xs e k.0 h.2 k.1)
+scns_push : (low high : ℕ) (log : List LogEntry) (e : LogEntry) → low ≤ e.scn → ScnsWithin low high log → AllByRecursion (λ (x : LogEntry). x.scn ≤ e.scn) log → ScnsWithin low e.scn (log ++ e ∷ [])
+scns_push low high [] e le h k = (le, omega arith, tt)
+scns_push low high (x ∷ xs) e le h k = (h.0, k.0, scns_push x.scn high xs e k.0 h.2 k.1)
 
 -- the log of a dictionary has one entry more, whose vector is this one
 module _ (old new : Known) (log : List LogEntry) (e : LogEntry) (v : Vector) (s : StandsFor old log) (f : MayFollow log e) (is : e.vector ≡ v) (passes : refusal (database log) v ≡ None) where
@@ -44,68 +44,68 @@ module _ (old new : Known) (log : List LogEntry) (e : LogEntry) (v : Vector) (s 
   unfolding database
   more tracks catalogs =
       let passed : refusal (walked no_database log) e.vector ≡ None = ap (λ (x : Vector). refusal (walked no_database log) x) is ∙ passes in
-      let here : database (log ++ e ∷ []) ≡ after (database log) v = database-push log e ∙ ap (λ (x : Vector). after (database log) x) is in
+      let here : database (log ++ e ∷ []) ≡ after (database log) v = database_push log e ∙ ap (λ (x : Vector). after (database log) x) is in
       let own : numbered (0 + length log) (e ∷ []) ≡ e ∷ [] = let at : 0 + length log ≡ e.pos = omega (arith, f.place) in ap (λ (n : ℕ). let l : List LogEntry = record e { pos = n } ∷ [] in l) at in
       record {
-        sound = sound-push no_database log e s.sound f.spelled passed;
-        places = numbered-append 0 log (e ∷ []) ∙ ap (λ (l : List LogEntry). l ++ numbered (0 + length log) (e ∷ [])) s.places ∙ ap (λ (l : List LogEntry). log ++ l) own;
+        sound = sound_push no_database log e s.sound f.spelled passed;
+        places = numbered_append 0 log (e ∷ []) ∙ ap (λ (l : List LogEntry). l ++ numbered (0 + length log) (e ∷ [])) s.places ∙ ap (λ (l : List LogEntry). log ++ l) own;
         last = e.scn;
-        scns = scns-push 0 s.last log e (omega arith) s.scns f.scn;
+        scns = scns_push 0 s.last log e (omega arith) s.scns f.scn;
         transactions = subst (TracksIn new.transactions) (sym here) tracks;
         objects = catalogs;
       }
 
-  pub takes_up-transaction : ((obj : ℕ) → (after (database log) v).tables obj ≡ (database log).tables obj) → ((obj : ℕ) → (after (database log) v).created obj ≡ (database log).created obj)
+  pub takes_up_transaction : ((obj : ℕ) → (after (database log) v).tables obj ≡ (database log).tables obj) → ((obj : ℕ) → (after (database log) v).created obj ≡ (database log).created obj)
       → new.objects ≡ old.objects → TracksIn new.transactions (after (database log) v) → StandsFor new (log ++ e ∷ [])
-  takes_up-transaction tables created same tracks =
+  takes_up_transaction tables created same tracks =
       let back : (x : Vector) → e.vector ≡ x → v ≡ x = λ x k. sym is ∙ k in
       more tracks (subst (λ (l : List (ℕ × List Step)). Catalogs l (log ++ e ∷ [])) (sym same)
-      (Catalogs-same old.objects log e s.objects f.scn
+      (Catalogs_same old.objects log e s.objects f.scn
       (subst (λ (x : Vector). (obj : ℕ) → (after (database log) x).tables obj ≡ (database log).tables obj) (sym is) tables)
       (subst (λ (x : Vector). (obj : ℕ) → (after (database log) x).created obj ≡ (database log).created obj) (sym is) created)))
 
-  pub takes_up-object : (obj : ℕ) (definition : Option Definition) → new.transactions ≡ old.transactions → TracksIn old.transactions (after (database log) v)
+  pub takes_up_object : (obj : ℕ) (definition : Option Definition) → new.transactions ≡ old.transactions → TracksIn old.transactions (after (database log) v)
       → AddsStep old.objects new.objects obj (record { scn = e.scn; definition = definition })
       → AreDefined obj ((after (database log) v).tables obj) definition
       → (after (database log) v).created obj ≡ true
       → ((q : ℕ) → nat_eq obj q ≡ false → (after (database log) v).tables q ≡ (database log).tables q)
       → ((q : ℕ) → nat_eq obj q ≡ false → (after (database log) v).created q ≡ (database log).created q)
       → StandsFor new (log ++ e ∷ [])
-  takes_up-object obj definition same tracks adds made was tables created =
+  takes_up_object obj definition same tracks adds made was tables created =
       more (subst (λ (t : Held). TracksIn t (after (database log) v)) (sym same) tracks)
-      (Catalogs-step old.objects new.objects log e obj definition s.objects f.scn adds
+      (Catalogs_step old.objects new.objects log e obj definition s.objects f.scn adds
       (subst (λ (x : Vector). AreDefined obj ((after (database log) x).tables obj) definition) (sym is) made)
       (subst (λ (x : Vector). (after (database log) x).created obj ≡ true) (sym is) was)
       (subst (λ (x : Vector). (q : ℕ) → nat_eq obj q ≡ false → (after (database log) x).tables q ≡ (database log).tables q) (sym is) tables)
       (subst (λ (x : Vector). (q : ℕ) → nat_eq obj q ≡ false → (after (database log) x).created q ≡ (database log).created q) (sym is) created))
 
   -- an object that was created gets another table, or none
-  pub takes_up-change : (obj : ℕ) (made : Option Table) (definition : Option Definition) → (after (database log) v).tables ≡ set_at obj made (database log).tables → (after (database log) v).created ≡ (database log).created
+  pub takes_up_change : (obj : ℕ) (made : Option Table) (definition : Option Definition) → (after (database log) v).tables ≡ set_at obj made (database log).tables → (after (database log) v).created ≡ (database log).created
       → new.transactions ≡ old.transactions → TracksIn old.transactions (after (database log) v)
       → AddsStep old.objects new.objects obj (record { scn = e.scn; definition = definition })
       → AreDefined obj made definition → (database log).created obj ≡ true → StandsFor new (log ++ e ∷ [])
-  takes_up-change obj made definition tables created same tracks adds defined was =
-      takes_up-object obj definition same tracks adds
-      (subst (λ (t : Option Table). AreDefined obj t definition) (sym (ap (λ (g : ℕ → Option Table). g obj) tables ∙ set_at-here obj made (database log).tables)) defined)
+  takes_up_change obj made definition tables created same tracks adds defined was =
+      takes_up_object obj definition same tracks adds
+      (subst (λ (t : Option Table). AreDefined obj t definition) (sym (ap (λ (g : ℕ → Option Table). g obj) tables ∙ set_at_here obj made (database log).tables)) defined)
       (ap (λ (g : ℕ → Bool). g obj) created ∙ was)
-      (λ q k. ap (λ (g : ℕ → Option Table). g q) tables ∙ set_at-apart obj made (database log).tables q k)
+      (λ q k. ap (λ (g : ℕ → Option Table). g q) tables ∙ set_at_apart obj made (database log).tables q k)
       (λ q k. ap (λ (g : ℕ → Bool). g q) created)
 
   -- an object that was not created is made
-  pub takes_up-create : (obj extents : ℕ) (flag : Bool) (columns : List ColKind) (definition : Definition) → v ≡ Create obj extents flag columns
+  pub takes_up_create : (obj extents : ℕ) (flag : Bool) (columns : List ColKind) (definition : Definition) → v ≡ Create obj extents flag columns
       → new.transactions ≡ old.transactions
       → AddsStep old.objects new.objects obj (record { scn = e.scn; definition = Some definition })
       → IsDefinition obj (record { extents = extents; flag = flag; kinds = columns }) definition
       → StandsFor new (log ++ e ∷ [])
-  takes_up-create obj extents flag columns definition create same adds defined =
+  takes_up_create obj extents flag columns definition create same adds defined =
       let made : Table = record { extents = extents; flag = flag; kinds = columns } in
       let db = database log in
-      takes_up-object obj (Some definition) same
+      takes_up_object obj (Some definition) same
       (subst (λ (x : Vector). TracksIn old.transactions (after db x)) (sym create) s.transactions) adds
-      (subst (λ (x : Vector). AreDefined obj ((after db x).tables obj) (Some definition)) (sym create) (subst (λ (t : Option Table). AreDefined obj t (Some definition)) (sym (set_at-here obj (Some made) db.tables)) defined))
-      (subst (λ (x : Vector). (after db x).created obj ≡ true) (sym create) (set_at-here obj true db.created))
-      (subst (λ (x : Vector). (q : ℕ) → nat_eq obj q ≡ false → (after db x).tables q ≡ db.tables q) (sym create) (λ q k. set_at-apart obj (Some made) db.tables q k))
-      (subst (λ (x : Vector). (q : ℕ) → nat_eq obj q ≡ false → (after db x).created q ≡ db.created q) (sym create) (λ q k. set_at-apart obj true db.created q k))
+      (subst (λ (x : Vector). AreDefined obj ((after db x).tables obj) (Some definition)) (sym create) (subst (λ (t : Option Table). AreDefined obj t (Some definition)) (sym (set_at_here obj (Some made) db.tables)) defined))
+      (subst (λ (x : Vector). (after db x).created obj ≡ true) (sym create) (set_at_here obj true db.created))
+      (subst (λ (x : Vector). (q : ℕ) → nat_eq obj q ≡ false → (after db x).tables q ≡ db.tables q) (sym create) (λ q k. set_at_apart obj (Some made) db.tables q k))
+      (subst (λ (x : Vector). (q : ℕ) → nat_eq obj q ≡ false → (after db x).created q ≡ db.created q) (sym create) (λ q k. set_at_apart obj true db.created q k))
 
 -- the place of a change, from what was found of the transaction and the object
 pub placed : (db : Database) (txn obj block slot : ℕ) (addr : Place) (definition : Definition) → is_running db txn ≡ true → AreDefined obj (db.tables obj) (Some definition)
@@ -117,32 +117,32 @@ placed db txn obj block slot addr definition running defined within = by_table (
     by_table (Some t) e h = let at = within t h in record { running = running; table = t; there = e; defined = h; within = at.0; at = at.1 }
 
 -- a change that is placed passes the checks of its address
-pub passes-placed : (db : Database) (txn obj block slot : ℕ) (addr : Place) (definition : Definition) (p : IsPlaced db txn obj block slot addr definition) (later : Table → Option CheckKind) → on_change db txn obj block slot later ≡ later p.table
-passes-placed db txn obj block slot addr definition p later = rw (p.running, p.there, p.within) refl
+pub passes_placed : (db : Database) (txn obj block slot : ℕ) (addr : Place) (definition : Definition) (p : IsPlaced db txn obj block slot addr definition) (later : Table → Option CheckKind) → on_change db txn obj block slot later ≡ later p.table
+passes_placed db txn obj block slot addr definition p later = rw (p.running, p.there, p.within) refl
 
 -- one that is misplaced is answered so
-pub answers-misplaced : (T : Type 0) (db : Database) (txn obj block slot : ℕ) (refused : RedoRefused) → IsMisplaced db txn obj block slot refused → (later : Table → Option CheckKind) → IsAnswer {T = T} (Err refused) (on_change db txn obj block slot later)
-answers-misplaced T db txn obj block slot (Check check) h later = h later
-answers-misplaced T db txn obj block slot Memory h later = tt
+pub answers_misplaced : (T : Type 0) (db : Database) (txn obj block slot : ℕ) (refused : RedoRefused) → IsMisplaced db txn obj block slot refused → (later : Table → Option CheckKind) → IsAnswer {T = T} (Err refused) (on_change db txn obj block slot later)
+answers_misplaced T db txn obj block slot (Check check) h later = h later
+answers_misplaced T db txn obj block slot Memory h later = tt
 
 -- the flag of a placed change's object is that of its table
-pub placed-flag : (db : Database) (txn obj block slot : ℕ) (addr : Place) (definition : Definition) → IsPlaced db txn obj block slot addr definition → definition.flag ≡ is_in_memory (db.tables addr.obj)
-placed-flag db txn obj block slot addr definition p =
+pub placed_flag : (db : Database) (txn obj block slot : ℕ) (addr : Place) (definition : Definition) → IsPlaced db txn obj block slot addr definition → definition.flag ≡ is_in_memory (db.tables addr.obj)
+placed_flag db txn obj block slot addr definition p =
     p.defined.flag ∙ sym (ap is_in_memory p.there) ∙ sym (ap (λ (a : Place). is_in_memory (db.tables a.obj)) p.at)
 
-same_flag-refl : (b : Bool) → same_flag b b ≡ true
-same_flag-refl true = refl
-same_flag-refl false = refl
+same_flag_refl : (b : Bool) → same_flag b b ≡ true
+same_flag_refl true = refl
+same_flag_refl false = refl
 
-pub passes-commit : (db : Database) (txn : ℕ) (flag : Bool) → is_running db txn ≡ true → db.noted txn ≡ flag → refusal db (Commit txn flag) ≡ None
-passes-commit db txn flag running noted = rw (running, noted, same_flag-refl flag) refl
+pub passes_commit : (db : Database) (txn : ℕ) (flag : Bool) → is_running db txn ≡ true → db.noted txn ≡ flag → refusal db (Commit txn flag) ≡ None
+passes_commit db txn flag running noted = rw (running, noted, same_flag_refl flag) refl
 
-pub passes-put : (db : Database) (txn obj block slot : ℕ) (row : List Value) (addr : Place) (definition : Definition) (p : IsPlaced db txn obj block slot addr definition) → fits_row row p.table.kinds ≡ true → refusal db (Put txn obj block slot row) ≡ None
-passes-put db txn obj block slot row addr definition p fits = passes-placed db txn obj block slot addr definition p (λ table. demand (fits_row row table.kinds) BadRow None) ∙ ap (λ (b : Bool). demand b BadRow None) fits
+pub passes_put : (db : Database) (txn obj block slot : ℕ) (row : List Value) (addr : Place) (definition : Definition) (p : IsPlaced db txn obj block slot addr definition) → fits_row row p.table.kinds ≡ true → refusal db (Put txn obj block slot row) ≡ None
+passes_put db txn obj block slot row addr definition p fits = passes_placed db txn obj block slot addr definition p (λ table. demand (fits_row row table.kinds) BadRow None) ∙ ap (λ (b : Bool). demand b BadRow None) fits
 
-pub passes-undo : (db : Database) (txn obj block slot : ℕ) (addr : Place) (definition : Definition) (p : IsPlaced db txn obj block slot addr definition) → has_change addr (db.pending txn) ≡ true → refusal db (Undo txn obj block slot) ≡ None
-passes-undo db txn obj block slot addr definition p has =
-    passes-placed db txn obj block slot addr definition p (λ table. demand (has_change (place obj block slot) (db.pending txn)) NothingToUndo None)
+pub passes_undo : (db : Database) (txn obj block slot : ℕ) (addr : Place) (definition : Definition) (p : IsPlaced db txn obj block slot addr definition) → has_change addr (db.pending txn) ≡ true → refusal db (Undo txn obj block slot) ≡ None
+passes_undo db txn obj block slot addr definition p has =
+    passes_placed db txn obj block slot addr definition p (λ table. demand (has_change (place obj block slot) (db.pending txn)) NothingToUndo None)
     ∙ ap (λ (b : Bool). demand b NothingToUndo None) (sym (ap (λ (a : Place). has_change a (db.pending txn)) p.at) ∙ has)
 
 -- what is known of an object that has a definition
@@ -167,14 +167,14 @@ found objects log obj definition h is =
         let k = known (lookup (nat_eq obj) objects) is in
         record { table = t; there = e; defined = d; known = k; created = sym (h.created obj) ∙ k }
 
-pub flag-is : (a b : Bool) → not (beq a b) ≡ false → a ≡ b
-flag-is true true e = refl
-flag-is true false e = absurd (true≢false e)
-flag-is false true e = absurd (true≢false e)
-flag-is false false e = refl
+pub flag_is : (a b : Bool) → not (beq a b) ≡ false → a ≡ b
+flag_is true true e = refl
+flag_is true false e = absurd (true≢false e)
+flag_is false true e = absurd (true≢false e)
+flag_is false false e = refl
 
-pub passes-on_table : (db : Database) (obj : ℕ) (table : Table) (later : Table → Option CheckKind) → db.tables obj ≡ Some table → on_table (db.tables obj) later ≡ later table
-passes-on_table db obj table later there = ap (λ (o : Option Table). on_table o later) there
+pub passes_on_table : (db : Database) (obj : ℕ) (table : Table) (later : Table → Option CheckKind) → db.tables obj ≡ Some table → on_table (db.tables obj) later ≡ later table
+passes_on_table db obj table later there = ap (λ (o : Option Table). on_table o later) there
 
 pub none_from : {T : Type 0} (o : Option T) → is_some o ≡ false → o ≡ None
 none_from None e = refl

@@ -1,11 +1,11 @@
 -- What the checks of one entry find, and what becomes of a dictionary.
 use Rattle.std.specs.Prelude.{◌≡◌, ℕ, true, List, [], ◌∷◌, ◌++◌, Option, Some, Result}
-use Rattle.adg_base.specs.Address.{Place}
+use Rattle.adg_base.specs.Address.{Place, place}
 use Rattle.adg_base.specs.declared.definition.Definition.{Definition}
 use Rattle.adg_base.specs.declared.vector.Vector.{Vector}
 use Rattle.adg_base.specs.declared.log.LogEntry.{LogEntry}
 use Rattle.adg_model.specs.declared.fault.CheckKind.{CheckKind}
-use Rattle.adg_model.specs.Database.{Database, Table, database, place}
+use Rattle.adg_model.specs.Database.{Database, Table, database}
 use Rattle.adg_model.specs.Defined.{IsDefinition}
 use Rattle.adg_model.specs.Sound.{refusal, is_running, on_change, has_address}
 use Rattle.dictionary.specs.declared.refused.RedoRefused.{RedoRefused}

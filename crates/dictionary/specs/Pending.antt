@@ -4,8 +4,7 @@ use Rattle.std.specs.Prelude.{◌≡◌, ℕ, ◌+◌, ◌-◌, Bool, true, fals
 use Rattle.std.specs.List.{list_any}
 use Rattle.std.specs.Map.{lookup}
 use Rattle.std.specs.Option.{option_map}
-use Rattle.adg_base.specs.Address.{Place}
-use Rattle.adg_model.specs.Database.{same_place}
+use Rattle.adg_base.specs.Address.{Place, same_place}
 use Rattle.dictionary.specs.declared.change.Change.{Change}
 use Rattle.dictionary.specs.declared.change.Pending.{Pending}
 

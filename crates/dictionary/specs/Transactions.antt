@@ -2,8 +2,8 @@
 use Rattle.std.specs.Prelude.{◌≡◌, ℕ, Bool, false, not, nat_eq, ◌&&◌, ◌||◌, ◌+◌, if◌then◌else◌, List, [], ◌∷◌, Option, Some, None, is_some}
 use Rattle.std.specs.List.{list_any}
 use Rattle.std.specs.Map.{lookup}
-use Rattle.adg_base.specs.Address.{Place}
-use Rattle.adg_model.specs.Database.{Change as Played, Database, same_place}
+use Rattle.adg_base.specs.Address.{Place, same_place}
+use Rattle.adg_model.specs.Database.{Change as Played, Database}
 use Rattle.dictionary.specs.declared.change.Change.{Change}
 use Rattle.dictionary.specs.declared.change.Pending.{Pending}
 use Rattle.dictionary.specs.declared.change.Running.{Running}

@@ -1,5 +1,6 @@
 ghost use Rattle.std.specs.Prelude.{◌≡◌, ℕ, ◌+◌, ◌<◌, ◌≤◌, List, ◌∷◌, [], ◌++◌, false, true, nat_lt, length, take, MatchOption};
-ghost use Rattle.adg_model.specs.Database.{Table, place};
+ghost use Rattle.adg_model.specs.Database.{Table};
+ghost use Rattle.adg_base.specs.Address.{place};
 ghost use Rattle.adg_model.specs.Defined.{IsDefinition};
 ghost use Rattle.adg_model.specs.Sound.{has_address};
 

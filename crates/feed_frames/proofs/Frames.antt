@@ -40,10 +40,10 @@ pub stop_first : (before : List Item) → tag_fault before stop_tag ≡ None →
 stop_first [] h = refl
 stop_first (x ∷ xs) h = cc
 
-pub length-end : length end_bytes ≡ 5
+pub length_end : length end_bytes ≡ 5
 unfolding frame
-length-end = refl
+length_end = refl
 
-pub length-stop : length stop_bytes ≡ 5
+pub length_stop : length stop_bytes ≡ 5
 unfolding frame
-length-stop = refl
+length_stop = refl

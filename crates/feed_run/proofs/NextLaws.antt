@@ -7,9 +7,9 @@ use Rattle.adg_model.specs.declared.delivery.RawDelivery.{RawDelivery}
 use Rattle.adg_model.specs.declared.delivery.RedoPiece.{RedoPiece}
 use Rattle.adg_model.specs.Feed.{Item, Redo, Asks, Schedules, Standing, AreItems, IsDelivery, IsIn, piece_of, command_of, redo_len, redo_total, start, after_delivery, after_deliveries, most_redo, most_payload, most_deliveries}
 use Rattle.adg_model.specs.Records.{bytes_for, thread_text}
-use Rattle.adg_model.proofs.FeedLaws.{few_commands, own_sessions, after-threads, after-sessions, ends_count, redo_within}
+use Rattle.adg_model.proofs.FeedLaws.{few_commands, own_sessions, after_threads, after_sessions, ends_count, redo_within}
 use Rattle.feed_run.specs.Standby.{Meaning, IsNext, deliveries_of}
-use Rattle.feed_run.proofs.ProgressLaws.{last-delivery, of-more}
+use Rattle.feed_run.proofs.ProgressLaws.{last_delivery, of_more}
 
 -- the redo bytes of a thread are no more than the redo counts
 piece_room : (thread t : ℕ) (b : List ℕ) → length (bytes_for thread (record { thread = t; bytes = b })) ≤ length b
@@ -45,38 +45,38 @@ own_threads st before (Asks s t ∷ items) h = own_threads st (before ++ Asks s 
 own_threads st before (Schedules b ∷ items) h = own_threads st (before ++ Schedules b ∷ []) items h.1
 
 module _ (answered : Meaning) (d : RawDelivery) (next : IsNext answered d) where
-  is-delivery : IsDelivery (after_deliveries (start next.threads next.sessions) next.before) next.items
-  is-delivery = last-delivery (start next.threads next.sessions) next.before next.items next.feed.1
+  is_delivery : IsDelivery (after_deliveries (start next.threads next.sessions) next.before) next.items
+  is_delivery = last_delivery (start next.threads next.sessions) next.before next.items next.feed.1
 
   -- there are fewer before it than a feed may have
-  pub next-count : length next.before < most_deliveries
-  next-count = omega (arith, is-delivery.1, ends_count (start next.threads next.sessions) next.before)
+  pub next_count : length next.before < most_deliveries
+  next_count = omega (arith, is_delivery.1, ends_count (start next.threads next.sessions) next.before)
 
   -- its commands are few, and each is of a session of the feed
-  pub next-few : length d.commands ≤ most_payload
-  next-few = subst (λ (k : RawDelivery). length k.commands ≤ most_payload) (sym next.brings) (few_commands (after_deliveries (start next.threads next.sessions) next.before) next.items is-delivery.0)
+  pub next_few : length d.commands ≤ most_payload
+  next_few = subst (λ (k : RawDelivery). length k.commands ≤ most_payload) (sym next.brings) (few_commands (after_deliveries (start next.threads next.sessions) next.before) next.items is_delivery.0)
 
-  pub next-sessions : AllByRecursion (λ (c : CommandText). IsIn next.sessions c.session) d.commands
-  next-sessions =
+  pub next_sessions : AllByRecursion (λ (c : CommandText). IsIn next.sessions c.session) d.commands
+  next_sessions =
       let st : Standing = after_deliveries (start next.threads next.sessions) next.before in
-      let own = own_sessions st next.items is-delivery.0 in
+      let own = own_sessions st next.items is_delivery.0 in
       subst (λ (k : RawDelivery). AllByRecursion (λ (c : CommandText). IsIn next.sessions c.session) k.commands) (sym next.brings)
-      (subst (λ (s : ℕ). AllByRecursion (λ (c : CommandText). IsIn s c.session) (filter_map command_of next.items)) (after-sessions (start next.threads next.sessions) next.before) own)
+      (subst (λ (s : ℕ). AllByRecursion (λ (c : CommandText). IsIn s c.session) (filter_map command_of next.items)) (after_sessions (start next.threads next.sessions) next.before) own)
 
   -- each of its pieces is of a thread of the feed
-  pub next-threads : AllByRecursion (λ (p : RedoPiece). IsIn next.threads p.thread) d.pieces
-  next-threads =
+  pub next_threads : AllByRecursion (λ (p : RedoPiece). IsIn next.threads p.thread) d.pieces
+  next_threads =
       let st : Standing = after_deliveries (start next.threads next.sessions) next.before in
-      let own = own_threads st [] next.items is-delivery.0 in
+      let own = own_threads st [] next.items is_delivery.0 in
       subst (λ (k : RawDelivery). AllByRecursion (λ (p : RedoPiece). IsIn next.threads p.thread) k.pieces) (sym next.brings)
-      (subst (λ (t : ℕ). AllByRecursion (λ (p : RedoPiece). IsIn t p.thread) (filter_map piece_of next.items)) (after-threads (start next.threads next.sessions) next.before) own)
+      (subst (λ (t : ℕ). AllByRecursion (λ (p : RedoPiece). IsIn t p.thread) (filter_map piece_of next.items)) (after_threads (start next.threads next.sessions) next.before) own)
 
   -- with it the redo of each thread is no longer than that of a feed may be
-  pub next-room : (thread : ℕ) → length (thread_text thread (deliveries_of next.before ++ d ∷ [])) ≤ most_redo
-  next-room thread =
+  pub next_room : (thread : ℕ) → length (thread_text thread (deliveries_of next.before ++ d ∷ [])) ≤ most_redo
+  next_room thread =
       let st : Standing = start next.threads next.sessions in
       let all : deliveries_of (next.before ++ next.items ∷ []) ≡ deliveries_of next.before ++ d ∷ [] =
-      of-more next.before next.items ∙ ap (λ (k : RawDelivery). deliveries_of next.before ++ k ∷ []) (sym next.brings)
+      of_more next.before next.items ∙ ap (λ (k : RawDelivery). deliveries_of next.before ++ k ∷ []) (sym next.brings)
       in
       let within = redo_within st (next.before ++ next.items ∷ []) next.feed.1 (omega arith) in
       let room = text_room thread st (next.before ++ next.items ∷ []) in

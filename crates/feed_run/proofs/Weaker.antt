@@ -9,32 +9,32 @@ use Rattle.feed_run.specs.View.{SourceView, SinkView}
 use Rattle.feed_run.proofs.ProgressLaws.{Follows}
 
 -- what follows from what each standby has answered, and holds before the first delivery
-pub some-weaker : {S : Type 0} (answered : S → Meaning) (q : Meaning) → ((standby : S) → Follows (answered standby) q) → ((threads sessions : ℕ) → q threads sessions [] []) → Follows (SomeAnswered answered) q
-some-weaker answered q f nothing threads sessions ds out (inl (none, empty)) =
+pub some_weaker : {S : Type 0} (answered : S → Meaning) (q : Meaning) → ((standby : S) → Follows (answered standby) q) → ((threads sessions : ℕ) → q threads sessions [] []) → Follows (SomeAnswered answered) q
+some_weaker answered q f nothing threads sessions ds out (inl (none, empty)) =
     subst (λ (l : List RawDelivery). q threads sessions l out) (sym none) (subst (q threads sessions []) (sym empty) (nothing threads sessions))
-some-weaker answered q f nothing threads sessions ds out (inr (standby, h)) = f standby threads sessions ds out h
+some_weaker answered q f nothing threads sessions ds out (inr (standby, h)) = f standby threads sessions ds out h
 
 module _ (p q : Meaning) (n m : Unbuilt) (means : Follows p q) (asks : (threads : ℕ) (ds : List RawDelivery) → n threads ds → m threads ds) where
-  one-weaker : (taken written : List ℕ) → HasOneMore p taken written → HasOneMore q taken written
-  one-weaker taken written h = record { threads = h.threads; sessions = h.sessions; deliveries = h.deliveries; last = h.last; feed = h.feed; read = h.read; ran = means h.threads h.sessions _ written h.ran }
+  one_weaker : (taken written : List ℕ) → HasOneMore p taken written → HasOneMore q taken written
+  one_weaker taken written h = record { threads = h.threads; sessions = h.sessions; deliveries = h.deliveries; last = h.last; feed = h.feed; read = h.read; ran = means h.threads h.sessions _ written h.ran }
 
-  front-weaker : (taken written : List ℕ) → HasRunFront p taken written → HasRunFront q taken written
-  front-weaker taken written h = record { threads = h.threads; sessions = h.sessions; deliveries = h.deliveries; front = h.front; ran = means h.threads h.sessions _ written h.ran }
+  front_weaker : (taken written : List ℕ) → HasRunFront p taken written → HasRunFront q taken written
+  front_weaker taken written h = record { threads = h.threads; sessions = h.sessions; deliveries = h.deliveries; front = h.front; ran = means h.threads h.sessions _ written h.ran }
 
-  cut-weaker : (taken written : List ℕ) → IsCutTranscript p taken written → IsCutTranscript q taken written
-  unfolding one-weaker
-  cut-weaker taken written h = record {
+  cut_weaker : (taken written : List ℕ) → IsCutTranscript p taken written → IsCutTranscript q taken written
+  unfolding one_weaker
+  cut_weaker taken written h = record {
     before = h.before;
     front = h.front;
     cut = h.cut;
-    one = one-weaker taken h.before h.one;
+    one = one_weaker taken h.before h.one;
     ran = means h.one.threads h.one.sessions (all_of h.one) _ h.ran;
     some = h.some;
     written_is = h.written_is;
   }
 
   pub stops_weaker : (ending : Ending) (source : Option (List ℕ)) (taken written : List ℕ) → Stops p n ending source taken written → Stops q m ending source taken written
-  unfolding one-weaker
+  unfolding one_weaker
   stops_weaker FeedRead source taken written h = record { threads = h.threads; sessions = h.sessions; deliveries = h.deliveries; feed = h.feed; read = h.read; ran = means h.threads h.sessions _ written h.ran }
   stops_weaker WordsRefused source taken written h = absurd h
   stops_weaker (FeedRefused kind byte) source taken written h = record {
@@ -46,24 +46,24 @@ module _ (p q : Meaning) (n m : Unbuilt) (means : Follows p q) (asks : (threads 
     at_once = h.at_once;
     ran = means h.threads h.sessions _ written h.ran;
   }
-  stops_weaker (RedoRefused fault) source taken written h = record { one = one-weaker taken written h.one; bad = h.bad }
-  stops_weaker SourceFailed source taken written h = front-weaker taken written h
-  stops_weaker SinkFailed source taken written h = cut-weaker taken written h
-  stops_weaker NoMemory source taken written (inl h) = inl (front-weaker taken written h)
-  stops_weaker NoMemory source taken written (inr h) = inr (front-weaker _ written h)
+  stops_weaker (RedoRefused fault) source taken written h = record { one = one_weaker taken written h.one; bad = h.bad }
+  stops_weaker SourceFailed source taken written h = front_weaker taken written h
+  stops_weaker SinkFailed source taken written h = cut_weaker taken written h
+  stops_weaker NoMemory source taken written (inl h) = inl (front_weaker taken written h)
+  stops_weaker NoMemory source taken written (inr h) = inr (front_weaker _ written h)
   stops_weaker NotBuilt source taken written (inl h) = inl (record { threads = h.threads; sessions = h.sessions; header = h.header; read = h.read; none = h.none; asks = asks h.threads [] h.asks })
-  stops_weaker NotBuilt source taken written (inr h) = inr (record { one = one-weaker taken written h.one; asks = asks h.one.threads (all_of h.one) h.asks })
+  stops_weaker NotBuilt source taken written (inr h) = inr (record { one = one_weaker taken written h.one; asks = asks h.one.threads (all_of h.one) h.asks })
 
-  line-weaker : (ending : Ending) (source : Option (List ℕ)) (taken written : List ℕ) → StopsWithLine p n ending source taken written → StopsWithLine q m ending source taken written
-  line-weaker ending source taken written h = record { before = h.before; stops = stops_weaker ending source taken h.before h.stops; then_line = h.then_line }
+  line_weaker : (ending : Ending) (source : Option (List ℕ)) (taken written : List ℕ) → StopsWithLine p n ending source taken written → StopsWithLine q m ending source taken written
+  line_weaker ending source taken written h = record { before = h.before; stops = stops_weaker ending source taken h.before h.stops; then_line = h.then_line }
 
   pub ends_weaker : (source : Option (List ℕ)) (ending : Ending) (taken written : List ℕ) → RunEnds p n source ending taken written → RunEnds q m source ending taken written
-  ends_weaker source FeedRead taken written h = line-weaker FeedRead source taken written h
+  ends_weaker source FeedRead taken written h = line_weaker FeedRead source taken written h
   ends_weaker source WordsRefused taken written h = absurd h
-  ends_weaker source (FeedRefused kind byte) taken written h = line-weaker (FeedRefused kind byte) source taken written h
-  ends_weaker source (RedoRefused fault) taken written h = line-weaker (RedoRefused fault) source taken written h
-  ends_weaker source SourceFailed taken written h = line-weaker SourceFailed source taken written h
-  ends_weaker source SinkFailed taken written (inl h) = inl (cut-weaker taken written h)
+  ends_weaker source (FeedRefused kind byte) taken written h = line_weaker (FeedRefused kind byte) source taken written h
+  ends_weaker source (RedoRefused fault) taken written h = line_weaker (RedoRefused fault) source taken written h
+  ends_weaker source SourceFailed taken written h = line_weaker SourceFailed source taken written h
+  ends_weaker source SinkFailed taken written (inl h) = inl (cut_weaker taken written h)
   ends_weaker source SinkFailed taken written (inr h) = inr (record {
     ending = h.ending;
     told = h.told;
@@ -77,7 +77,7 @@ module _ (p q : Meaning) (n m : Unbuilt) (means : Follows p q) (asks : (threads 
   })
   ends_weaker source NoMemory taken written (inl h) = inl (stops_weaker NoMemory source taken written h)
   ends_weaker source NoMemory taken written (inr h) = inr (record { ending = h.ending; told = h.told; stops = stops_weaker h.ending source taken written h.stops })
-  ends_weaker source NotBuilt taken written h = line-weaker NotBuilt source taken written h
+  ends_weaker source NotBuilt taken written h = line_weaker NotBuilt source taken written h
 
 -- what follows from how a run ends
 pub headline_weaker : (e f : Ends) → ((ending : Ending) (taken written : List ℕ) → e ending taken written → f ending taken written) → (source source_now : SourceView) (sink sink_now : SinkView) (outcome : Outcome)

@@ -19,8 +19,8 @@ pub parsed_digits : {E : Type 0} (obj : ℕ) (bs : List ℕ) (r : Result ℕ E) 
 parsed_digits obj bs r good e h = parse-decimal 16 obj bs r (omega arith) (omega arith) e h
 
 -- the command's bytes are its text
-pub command_bytes-count : (obj : ℕ) → command_bytes (count_command obj) ≡ count_text obj
-command_bytes-count obj = append-nil _ ∙ append-nil _
+pub command_bytes_count : (obj : ℕ) → command_bytes (count_command obj) ≡ count_text obj
+command_bytes_count obj = append-nil _ ∙ append-nil _
 
 -- what `Obj::new` gives for a number of its range
 pub some_in_range : (r : Option ℕ) (n obj : ℕ) → n ≡ obj → 1 ≤ obj → (IsSome r ↔ (1 ≤ n)) → IfSome r (λ o. o ≡ n) → r ≡ Some obj
@@ -29,7 +29,7 @@ some_in_range (Some o) n obj e h range value = ap (λ (k : ℕ). Some k) (value 
 
 -- a text that is a count's text is that command
 pub counts : (obj : ℕ) (text : List ℕ) → IsObj obj → text ≡ count_text obj → Counts text obj
-counts obj text good e = (record { object = good; asks = (lit≤ tt, (tt, tt), tt); tests = tt }, e ∙ sym (command_bytes-count obj))
+counts obj text good e = (record { object = good; asks = (lit≤ tt, (tt, tt), tt); tests = tt }, e ∙ sym (command_bytes_count obj))
 
 pub same_bytes : (a b : List ℕ) → true ≡ pointwise nat_eq a b → a ≡ b
 same_bytes a b h = (slice_eq-Decides Decides-eqb a b true h).0 refl

@@ -22,7 +22,7 @@ use Rattle.imadg_top.specs.Answered.{AnswersAll, IsCounted, count_of}
 use Rattle.imadg_top.specs.Counting.{Counts, count_reply}
 use Rattle.imadg_top.specs.Run.{ran}
 use Rattle.imadg_top.specs.Served.{vectors_of}
-use Rattle.imadg_top.proofs.RunLaws.{database-at-ran}
+use Rattle.imadg_top.proofs.RunLaws.{database_at_ran}
 
 -- a filter that lets everything through
 filter_all : {X : Type 0} (xs : List X) → filter (λ (x : X). true) xs ≡ xs
@@ -132,7 +132,7 @@ legal sessions delivery floor commands rs old new follow above calm answers =
     let plain = plain_all _ f _ answers.lines answers.counted in
     subst (λ (k : ℕ). IsLegal sessions (merged_log (rs ∷ [])) floor k commands (record { list = answers.lines; end = f })) (sym (frontier_one rs))
     (record {
-      answered = zip_map _ _ (answers_one (merged_log (rs ∷ [])) f (ran no_database (vectors_of rs)) (database-at-ran rs follow)) _ answers.lines answers.counted;
+      answered = zip_map _ _ (answers_one (merged_log (rs ∷ [])) f (ran no_database (vectors_of rs)) (database_at_ran rs follow)) _ answers.lines answers.counted;
       rises = λ s. rises_plain floor f (replies_to s answers.lines) above (replies_plain f s answers.lines plain);
       ends = omega arith;
       synced = λ s. synced_plain f f (replies_to s answers.lines) (replies_plain f s answers.lines plain);

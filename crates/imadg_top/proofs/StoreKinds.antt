@@ -7,12 +7,12 @@ use Rattle.adg_base.specs.declared.value.ColKind.{ColKind}
 use Rattle.adg_base.specs.declared.value.Value.{Value}
 use Rattle.adg_model.specs.Sound.{fits_kind, fits_row}
 
-pub fits_row-zip : (vs : List Value) (ks : List ColKind) → fits_row vs ks ≡ (nat_eq (length vs) (length ks) && list_all (λ p. fits_kind p.0 p.1) (zip vs ks))
-fits_row-zip [] [] = refl
-fits_row-zip [] (k ∷ ks) = ap (λ (t : Bool). t && true) (sym (ne_eqb 0 (length (k ∷ ks)) (λ e. omega (arith, e))))
-fits_row-zip (v ∷ vs) [] = ap (λ (t : Bool). t && true) (sym (ne_eqb (length (v ∷ vs)) 0 (λ e. omega (arith, e))))
-fits_row-zip (v ∷ vs) (k ∷ ks) =
-    ap (λ (t : Bool). fits_kind v k && t) (fits_row-zip vs ks)
+pub fits_row_zip : (vs : List Value) (ks : List ColKind) → fits_row vs ks ≡ (nat_eq (length vs) (length ks) && list_all (λ p. fits_kind p.0 p.1) (zip vs ks))
+fits_row_zip [] [] = refl
+fits_row_zip [] (k ∷ ks) = ap (λ (t : Bool). t && true) (sym (ne_eqb 0 (length (k ∷ ks)) (λ e. omega (arith, e))))
+fits_row_zip (v ∷ vs) [] = ap (λ (t : Bool). t && true) (sym (ne_eqb (length (v ∷ vs)) 0 (λ e. omega (arith, e))))
+fits_row_zip (v ∷ vs) (k ∷ ks) =
+    ap (λ (t : Bool). fits_kind v k && t) (fits_row_zip vs ks)
     ∙ turned (fits_kind v k) (nat_eq (length vs) (length ks)) (list_all (λ p. fits_kind p.0 p.1) (zip vs ks))
     ∙ ap (λ (t : Bool). t && (fits_kind v k && list_all (λ p. fits_kind p.0 p.1) (zip vs ks))) (longer (length vs) (length ks))
   where

@@ -5,13 +5,13 @@ use Rattle.std.specs.HashMap as hash
 use Rattle.std.specs.HashSet as bag
 use Rattle.std.proofs.lemmas.Bool.{and_from, and_parts, eq-eqb, ne_eqb, lt-ltb, cases_eq, not_from_false}
 use Rattle.std.proofs.lemmas.List.{reverse-append}
-use Rattle.adg_base.specs.Address.{Place}
+use Rattle.adg_base.specs.Address.{Place, place}
 use Rattle.adg_base.specs.declared.value.ColKind.{ColKind}
 use Rattle.adg_base.specs.declared.value.Value.{Value}
 use Rattle.adg_base.specs.declared.vector.Vector.TheVariants.{Put, Commit, Create}
 use Rattle.adg_model.specs.declared.fault.CheckKind.{CheckKind}
 use Rattle.adg_model.specs.declared.fault.CheckKind.TheVariants.{TxnUnknown, ObjectTwice, BadAddress, BadRow, BadFlag}
-use Rattle.adg_model.specs.Database.{Change, Database, Table, after, place, set_at, is_in_memory}
+use Rattle.adg_model.specs.Database.{Change, Database, Table, after, set_at, is_in_memory}
 use Rattle.adg_model.specs.Sound.{demand, is_running, on_table, has_address, fits_row, same_flag}
 use Rattle.imadg_top.specs.declared.store.Store.{Store}
 use Rattle.imadg_top.specs.declared.store.Object.{Object}
@@ -137,9 +137,9 @@ put_changes old new t o b s row object (Running kept) to same found slot takes b
 put_changes old new t o b s row object Ended to same found slot takes begun adds updates = absurd adds
 
 -- A commit.
-same_flag-same : (flag noted : Bool) → noted ≡ flag → same_flag flag noted ≡ true
-same_flag-same true noted e = e
-same_flag-same false noted e = ap not e
+same_flag_same : (flag noted : Bool) → noted ≡ flag → same_flag flag noted ≡ true
+same_flag_same true noted e = e
+same_flag_same false noted e = ap not e
 
 pub commit_applies : (old new : Store) (t : ℕ) (flag : Bool) (kept : Pending) → hash.get nat_eq old.transactions t ≡ Some (Running kept) → kept.noted ≡ flag → ((u : ℕ) → hash.get nat_eq new.transactions u ≡ cond (nat_eq t u) (Some Ended) (hash.get nat_eq old.transactions u)) → AddsRows old.objects kept.changes new.objects → Applies old (Commit t flag) new
 commit_applies old new t flag kept begun flagged updates adds db shows =
@@ -148,7 +148,7 @@ commit_applies old new t flag kept begun flagged updates adds db shows =
       (
         refl,
         holds (is_running db t) TxnUnknown (demand (same_flag flag (db.noted t)) BadFlag None) (runs db t kept run)
-            (holds (same_flag flag (db.noted t)) BadFlag None (same_flag-same flag (db.noted t) (run.noted ∙ flagged)) refl),
+            (holds (same_flag flag (db.noted t)) BadFlag None (same_flag_same flag (db.noted t) (run.noted ∙ flagged)) refl),
       ),
       record {
         transactions = one_transaction old new db next t Ended updates

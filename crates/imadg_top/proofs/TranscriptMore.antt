@@ -13,7 +13,7 @@ use Rattle.adg_model.specs.Log.{merged_log, frontier, thread_mark, ReceivedFrom}
 use Rattle.adg_model.specs.Database.{Database, no_database}
 use Rattle.adg_model.specs.Reply.{lines_bytes, line_bytes, end_line_bytes}
 use Rattle.adg_model.specs.Transcript.{Asked, asked_from, all_asked, texts_of, is_abort, IsLegal, LegalFrom, printed}
-use Rattle.adg_model.proofs.LogLaws.{mark_rises, mark_after-append, raws_after}
+use Rattle.adg_model.proofs.LogLaws.{mark_rises, mark_after_append, raws_after}
 use Rattle.imadg_top.specs.declared.applier.Applier.{Applier}
 use Rattle.imadg_top.specs.Answered.{AnswersAll, IsCounted}
 use Rattle.imadg_top.specs.Counting.{Counts, CountsSome}
@@ -22,43 +22,43 @@ use Rattle.imadg_top.specs.Progress.{Transcribed, end_after}
 use Rattle.imadg_top.specs.Run.{ran}
 use Rattle.imadg_top.specs.Served.{vectors_of}
 use Rattle.imadg_top.specs.Applier.{IsDelivered}
-use Rattle.imadg_top.proofs.CountTexts.{command_bytes-count}
+use Rattle.imadg_top.proofs.CountTexts.{command_bytes_count}
 use Rattle.imadg_top.proofs.LegalLaws.{legal, plain_all}
-use Rattle.imadg_top.proofs.ApplierLaws.{has-records}
-use Rattle.imadg_top.proofs.ThreadLaws.{raws-append}
+use Rattle.imadg_top.proofs.ApplierLaws.{has_records}
+use Rattle.imadg_top.proofs.ThreadLaws.{raws_append}
 
-legal-more : (t s : ℕ) (earlier : List RawDelivery) (floor : ℕ) (ds : List RawDelivery) (ls : List Lines) (d : RawDelivery) (l : Lines) (rs : List (List RedoRecord))
+legal_more : (t s : ℕ) (earlier : List RawDelivery) (floor : ℕ) (ds : List RawDelivery) (ls : List Lines) (d : RawDelivery) (l : Lines) (rs : List (List RedoRecord))
     → LegalFrom t s earlier floor ds ls → length rs ≡ t → ReceivedFrom 1 ((earlier ++ ds) ++ d ∷ []) rs
     → IsLegal s (merged_log rs) (end_after floor ls) (frontier rs) d.commands l → LegalFrom t s earlier floor (ds ++ d ∷ []) (ls ++ l ∷ [])
-legal-more t s earlier floor [] [] d l rs h n received one = (rs, n, subst (λ (e : List RawDelivery). ReceivedFrom 1 (e ++ d ∷ []) rs) (append-nil earlier) received, one, tt)
-legal-more t s earlier floor [] (k ∷ ls) d l rs h n received one = absurd h
-legal-more t s earlier floor (c ∷ ds) [] d l rs h n received one = absurd h
-legal-more t s earlier floor (c ∷ ds) (k ∷ ls) d l rs h n received one = (
+legal_more t s earlier floor [] [] d l rs h n received one = (rs, n, subst (λ (e : List RawDelivery). ReceivedFrom 1 (e ++ d ∷ []) rs) (append-nil earlier) received, one, tt)
+legal_more t s earlier floor [] (k ∷ ls) d l rs h n received one = absurd h
+legal_more t s earlier floor (c ∷ ds) [] d l rs h n received one = absurd h
+legal_more t s earlier floor (c ∷ ds) (k ∷ ls) d l rs h n received one = (
   h.0,
   h.1,
   h.2,
   h.3,
-  legal-more t s (earlier ++ c ∷ []) k.end ds ls d l rs h.4 n
+  legal_more t s (earlier ++ c ∷ []) k.end ds ls d l rs h.4 n
       (subst (λ (e : List RawDelivery). ReceivedFrom 1 (e ++ d ∷ []) rs) (sym (append_assoc earlier (c ∷ []) ds)) received) one,
 )
 
-printed-more : (n : ℕ) (ls : List Lines) (l : Lines) → printed n (ls ++ l ∷ []) ≡ printed n ls ++ lines_bytes (n + length ls) l
-printed-more n [] l = append-nil _ ∙ ap (λ (k : ℕ). lines_bytes k l) (sym (add-zero n))
-printed-more n (k ∷ ls) l =
-    ap (λ (t : List ℕ). lines_bytes n k ++ t) (printed-more (n + 1) ls l ∙ ap (λ (m : ℕ). printed (n + 1) ls ++ lines_bytes m l) (omega arith))
+printed_more : (n : ℕ) (ls : List Lines) (l : Lines) → printed n (ls ++ l ∷ []) ≡ printed n ls ++ lines_bytes (n + length ls) l
+printed_more n [] l = append-nil _ ∙ ap (λ (k : ℕ). lines_bytes k l) (sym (add-zero n))
+printed_more n (k ∷ ls) l =
+    ap (λ (t : List ℕ). lines_bytes n k ++ t) (printed_more (n + 1) ls l ∙ ap (λ (m : ℕ). printed (n + 1) ls ++ lines_bytes m l) (omega arith))
     ∙ sym (append_assoc (lines_bytes n k) (printed (n + 1) ls) (lines_bytes (n + length (k ∷ ls)) l))
 
-end-more : (floor : ℕ) (ls : List Lines) (l : Lines) → end_after floor (ls ++ l ∷ []) ≡ l.end
-end-more floor [] l = refl
-end-more floor (k ∷ ls) l = end-more k.end ls l
+end_more : (floor : ℕ) (ls : List Lines) (l : Lines) → end_after floor (ls ++ l ∷ []) ≡ l.end
+end_more floor [] l = refl
+end_more floor (k ∷ ls) l = end_more k.end ls l
 
 -- an SCN of a thread does not fall with more records
 rises : (rs more : List RedoRecord) → AreRaws first_mark (map raw_of (rs ++ more)) → (thread_mark rs).scn ≤ (thread_mark (rs ++ more)).scn
 rises rs more h =
-    let both : map raw_of (rs ++ more) ≡ map raw_of rs ++ map raw_of more = raws-append rs more in
+    let both : map raw_of (rs ++ more) ≡ map raw_of rs ++ map raw_of more = raws_append rs more in
     let after = raws_after first_mark (map raw_of rs) (map raw_of more) (subst (AreRaws first_mark) both h) in
     let up = mark_rises (thread_mark rs) (map raw_of more) after in
-    let same : (thread_mark (rs ++ more)).scn ≡ (mark_after (thread_mark rs) (map raw_of more)).scn = ap (λ (m : Mark). m.scn) (ap (mark_after first_mark) both ∙ mark_after-append first_mark (map raw_of rs) (map raw_of more)) in
+    let same : (thread_mark (rs ++ more)).scn ≡ (mark_after (thread_mark rs) (map raw_of more)).scn = ap (λ (m : Mark). m.scn) (ap (mark_after first_mark) both ∙ mark_after_append first_mark (map raw_of rs) (map raw_of more)) in
     omega arith
 
 -- every text that was answered counts
@@ -104,33 +104,33 @@ answered_count db f sessions cs ls own h = all_count sessions cs own (λ s low h
 
 -- a count is no ABORT
 no_abort : (c : CommandText) → CountsSome c → is_abort c ≡ false
-no_abort c h = ap (λ (t : List ℕ). bytes_eq t (codes "ABORT")) (h.1.1 ∙ command_bytes-count h.0)
+no_abort c h = ap (λ (t : List ℕ). bytes_eq t (codes "ABORT")) (h.1.1 ∙ command_bytes_count h.0)
 
 pub calm : (cs : List CommandText) → AllByRecursion CountsSome cs → list_any is_abort cs ≡ true → ⊥
 calm [] h e = cc
 calm (c ∷ cs) h e = calm cs h.1 (rw (no_abort c h.0) at e)
 
 -- what is printed of one delivery more is what its lines print
-printed-one : (s : Applier) (n f : ℕ) (answers printed' : List ℕ) (lines : List Line) → s.delivered ≡ n → s.frontier ≡ f → answers ≡ [] ++ flat_map (line_bytes s.delivered) lines
+printed_one : (s : Applier) (n f : ℕ) (answers printed' : List ℕ) (lines : List Line) → s.delivered ≡ n → s.frontier ≡ f → answers ≡ [] ++ flat_map (line_bytes s.delivered) lines
     → printed' ≡ answers ++ end_line_bytes s.delivered s.frontier → printed' ≡ lines_bytes n (record { list = lines; end = f })
-printed-one s n f answers printed' lines number frontier answered e =
+printed_one s n f answers printed' lines number frontier answered e =
     e ∙ ap (λ (t : List ℕ). t ++ end_line_bytes s.delivered s.frontier) answered
     ∙ ap (λ (k : ℕ). flat_map (line_bytes k) lines ++ end_line_bytes k s.frontier) number
     ∙ ap (λ (q : ℕ). flat_map (line_bytes n) lines ++ end_line_bytes n q) frontier
 
 -- the lines of one delivery more are at its end too
-all-ends : (ls : List Lines) (l : Lines) → AllByRecursion CountsAtEnd ls → CountsAtEnd l → AllByRecursion CountsAtEnd (ls ++ l ∷ [])
-all-ends [] l h k = (k, tt)
-all-ends (x ∷ xs) l h k = (h.0, all-ends xs l h.1 k)
+all_ends : (ls : List Lines) (l : Lines) → AllByRecursion CountsAtEnd ls → CountsAtEnd l → AllByRecursion CountsAtEnd (ls ++ l ∷ [])
+all_ends [] l h k = (k, tt)
+all_ends (x ∷ xs) l h k = (h.0, all_ends xs l h.1 k)
 
-pub transcribed-more : (s : Applier) (sessions : ℕ) (ds : List RawDelivery) (d : RawDelivery) (records : List RedoRecord) (output printed' : List ℕ) (floor : ℕ)
+pub transcribed_more : (s : Applier) (sessions : ℕ) (ds : List RawDelivery) (d : RawDelivery) (records : List RedoRecord) (output printed' : List ℕ) (floor : ℕ)
     → Transcribed sessions ds output floor → floor ≡ (thread_mark records).scn → s.delivered ≡ length ds + 1
     → IsDelivered s sessions d (thread_text 1 (ds ++ d ∷ [])) records printed' → AllByRecursion (λ (c : CommandText). IsIn sessions c.session) d.commands
     → Transcribed sessions (ds ++ d ∷ []) (output ++ printed') s.frontier
-transcribed-more s sessions ds d records output printed' floor t low number done own =
+transcribed_more s sessions ds d records output printed' floor t low number done own =
     let all : List RedoRecord = records ++ done.more in
     let f : ℕ = (thread_mark all).scn in
-    let has = has-records s.assembler (thread_text 1 (ds ++ d ∷ [])) all done.run.thread in
+    let has = has_records s.assembler (thread_text 1 (ds ++ d ∷ [])) all done.run.thread in
     let a = subst (λ (k : ℕ). AnswersAll (ran no_database (vectors_of all)) s.delivered k (all_asked sessions d.commands) [] done.answers) done.run.frontier done.answered in
     let l : Lines = record { list = a.lines; end = f } in
     let up : floor ≤ f = omega (arith, rises records done.more has.raws.follow) in
@@ -140,11 +140,11 @@ transcribed-more s sessions ds d records output printed' floor t low number done
     let place : s.delivered ≡ 1 + length t.lines = omega (arith, t.count) in
     record {
       lines = t.lines ++ l ∷ [];
-      legal = legal-more 1 sessions [] 0 ds t.lines d l (all ∷ []) t.legal refl (has, tt) one';
-      print = ap (λ (w : List ℕ). w ++ printed') t.print ∙ ap (λ (w : List ℕ). printed 1 t.lines ++ w) (printed-one s (1 + length t.lines) f done.answers printed' a.lines place done.run.frontier a.printed done.lines)
-          ∙ sym (printed-more 1 t.lines l);
-      at_end = all-ends t.lines l t.at_end (plain_all _ f _ a.lines a.counted);
-      last = end-more 0 t.lines l ∙ sym done.run.frontier;
+      legal = legal_more 1 sessions [] 0 ds t.lines d l (all ∷ []) t.legal refl (has, tt) one';
+      print = ap (λ (w : List ℕ). w ++ printed') t.print ∙ ap (λ (w : List ℕ). printed 1 t.lines ++ w) (printed_one s (1 + length t.lines) f done.answers printed' a.lines place done.run.frontier a.printed done.lines)
+          ∙ sym (printed_more 1 t.lines l);
+      at_end = all_ends t.lines l t.at_end (plain_all _ f _ a.lines a.counted);
+      last = end_more 0 t.lines l ∙ sym done.run.frontier;
       count = length-append t.lines (l ∷ []) ∙ ap (λ (n : ℕ). n + 1) t.count ∙ sym (length-append ds (d ∷ []));
     }
 

@@ -4,9 +4,9 @@ use Rattle.std.specs.List.{AllByRecursion, list_any}
 use Rattle.std.specs.HashMap as hash
 use Rattle.std.specs.HashMap.{HashMap}
 use Rattle.std.specs.HashSet as bag
-use Rattle.adg_base.specs.Address.{Place}
+use Rattle.adg_base.specs.Address.{Place, place, same_place}
 use Rattle.adg_base.specs.declared.vector.Vector.{Vector}
-use Rattle.adg_model.specs.Database.{Database, Table, after, place, same_place}
+use Rattle.adg_model.specs.Database.{Database, Table, after}
 use Rattle.adg_model.specs.Sound.{has_address}
 use Rattle.imadg_top.specs.Served.{Takes}
 use Rattle.imadg_top.specs.declared.store.Store.{Store}

@@ -12,23 +12,23 @@ use Rattle.adg_model.specs.Records.{bytes_for, thread_text}
 use Rattle.adg_model.specs.Log.{frontier, ReceivedFrom}
 use Rattle.adg_model.specs.Sound.{IsFirstBadRecord}
 use Rattle.log_merger.specs.Merger.{Merging, with_piece, RecordsFrom, IsFirstBad, shown_of, StandsFor, texts_of, texts_with}
-use Rattle.log_merger.proofs.Merged.{threads-same}
+use Rattle.log_merger.proofs.Merged.{threads_same}
 
 -- the records of the texts are those that the deliveries give
-pub received-from : (thread : ℕ) (deliveries : List RawDelivery) (records : List (List RedoRecord)) → RecordsFrom thread (texts_of deliveries) records → ReceivedFrom thread deliveries records
-received-from thread deliveries [] h = tt
-received-from thread deliveries (r ∷ rs) h = (h.0, received-from (thread + 1) deliveries rs h.1)
+pub received_from : (thread : ℕ) (deliveries : List RawDelivery) (records : List (List RedoRecord)) → RecordsFrom thread (texts_of deliveries) records → ReceivedFrom thread deliveries records
+received_from thread deliveries [] h = tt
+received_from thread deliveries (r ∷ rs) h = (h.0, received_from (thread + 1) deliveries rs h.1)
 
-pub records-from : (thread : ℕ) (deliveries : List RawDelivery) (records : List (List RedoRecord)) → ReceivedFrom thread deliveries records → RecordsFrom thread (texts_of deliveries) records
-records-from thread deliveries [] h = tt
-records-from thread deliveries (r ∷ rs) h = (h.0, records-from (thread + 1) deliveries rs h.1)
+pub records_from : (thread : ℕ) (deliveries : List RawDelivery) (records : List (List RedoRecord)) → ReceivedFrom thread deliveries records → RecordsFrom thread (texts_of deliveries) records
+records_from thread deliveries [] h = tt
+records_from thread deliveries (r ∷ rs) h = (h.0, records_from (thread + 1) deliveries rs h.1)
 
 -- the first bad record of the texts is that of the deliveries
-pub first-bad-record : (threads : ℕ) (deliveries : List RawDelivery) (fault : RedoFault) → IsFirstBad threads (texts_of deliveries) fault → IsFirstBadRecord threads deliveries fault
-first-bad-record threads deliveries fault h = record {
+pub first_bad_record : (threads : ℕ) (deliveries : List RawDelivery) (fault : RedoFault) → IsFirstBad threads (texts_of deliveries) fault → IsFirstBadRecord threads deliveries fault
+first_bad_record threads deliveries fault h = record {
   below = h.below;
   records = h.records;
-  received = received-from 1 deliveries h.below h.good;
+  received = received_from 1 deliveries h.below h.good;
   thread = h.thread;
   is_thread = h.is_thread;
   number = h.number;
@@ -36,20 +36,20 @@ first-bad-record threads deliveries fault h = record {
 }
 
 -- texts that are the same for each thread
-pub stands-same : (m : Merging) (texts other : ℕ → List ℕ) (given : List LogEntry) → ((thread : ℕ) → texts thread ≡ other thread) → StandsFor m texts given → StandsFor m other given
-stands-same m texts other given same s = record {
+pub stands_same : (m : Merging) (texts other : ℕ → List ℕ) (given : List LogEntry) → ((thread : ℕ) → texts thread ≡ other thread) → StandsFor m texts given → StandsFor m other given
+stands_same m texts other given same s = record {
   parts = s.parts;
-  threads = threads-same 1 (frontier (shown_of s.parts)) texts other m.threads s.parts (λ k le. same k) s.threads;
+  threads = threads_same 1 (frontier (shown_of s.parts)) texts other m.threads s.parts (λ k le. same k) s.threads;
   log = s.log;
   count = s.count;
 }
 
 -- none of the pieces of a delivery, one more of them, and all
-pub texts-none : (deliveries : List RawDelivery) (thread : ℕ) → texts_of deliveries thread ≡ texts_with deliveries [] thread
-texts-none deliveries thread = sym (append-nil (thread_text thread deliveries))
+pub texts_none : (deliveries : List RawDelivery) (thread : ℕ) → texts_of deliveries thread ≡ texts_with deliveries [] thread
+texts_none deliveries thread = sym (append-nil (thread_text thread deliveries))
 
-pub texts-piece : (deliveries : List RawDelivery) (pieces : List RedoPiece) (piece : RedoPiece) (thread : ℕ) → with_piece piece.thread piece.bytes (texts_with deliveries pieces) thread ≡ texts_with deliveries (pieces ++ piece ∷ []) thread
-texts-piece deliveries pieces piece thread = by_test (eqb thread piece.thread) refl
+pub texts_piece : (deliveries : List RawDelivery) (pieces : List RedoPiece) (piece : RedoPiece) (thread : ℕ) → with_piece piece.thread piece.bytes (texts_with deliveries pieces) thread ≡ texts_with deliveries (pieces ++ piece ∷ []) thread
+texts_piece deliveries pieces piece thread = by_test (eqb thread piece.thread) refl
   where
     front : List ℕ
     front = texts_with deliveries pieces thread
@@ -65,7 +65,7 @@ texts-piece deliveries pieces piece thread = by_test (eqb thread piece.thread) r
         let other : piece.thread ≡ thread → ⊥ = λ s. eqb-false thread piece.thread e (sym s) in
         rw (e, more) (sym (ap (λ (b : Bool). front ++ cond b piece.bytes []) (ne_eqb piece.thread thread other) ∙ append-nil front))
 
-pub texts-all : (deliveries : List RawDelivery) (delivery : RawDelivery) (thread : ℕ) → texts_with deliveries delivery.pieces thread ≡ texts_of (deliveries ++ delivery ∷ []) thread
-texts-all deliveries delivery thread =
+pub texts_all : (deliveries : List RawDelivery) (delivery : RawDelivery) (thread : ℕ) → texts_with deliveries delivery.pieces thread ≡ texts_of (deliveries ++ delivery ∷ []) thread
+texts_all deliveries delivery thread =
     ap (λ (t : List ℕ). thread_text thread deliveries ++ t) (sym (append-nil (flat_map (bytes_for thread) delivery.pieces)))
     ∙ sym (flat_map-append (λ (d : RawDelivery). flat_map (bytes_for thread) d.pieces) deliveries (delivery ∷ []))

@@ -13,39 +13,39 @@ silent : ℕ → List (List RedoRecord)
 silent zero = []
 silent (suc n) = [] ∷ silent n
 
-length-silent : (n : ℕ) → length (silent n) ≡ n
+length_silent : (n : ℕ) → length (silent n) ≡ n
 unfolding silent
-length-silent zero = refl
-length-silent (suc n) = ap suc (length-silent n)
+length_silent zero = refl
+length_silent (suc n) = ap suc (length_silent n)
 
-no-fault : record_fault first_mark [] ≡ None
+no_fault : record_fault first_mark [] ≡ None
 unfolding record_fault
-no-fault = refl
+no_fault = refl
 
-no-records : HasRecords [] []
-no-records = record { rest = []; raws = record { spelled = refl; follow = tt; part = inl (omega arith); good = no-fault }; vectors = tt }
+no_records : HasRecords [] []
+no_records = record { rest = []; raws = record { spelled = refl; follow = tt; part = inl (omega arith); good = no_fault }; vectors = tt }
 
-received-silent : (thread n : ℕ) → ReceivedFrom thread [] (silent n)
+received_silent : (thread n : ℕ) → ReceivedFrom thread [] (silent n)
 unfolding silent
-received-silent thread zero = tt
-received-silent thread (suc n) = (no-records, received-silent (thread + 1) n)
+received_silent thread zero = tt
+received_silent thread (suc n) = (no_records, received_silent (thread + 1) n)
 
-entries-silent : (thread n : ℕ) → entries_from thread (silent n) ≡ []
+entries_silent : (thread n : ℕ) → entries_from thread (silent n) ≡ []
 unfolding silent
-entries-silent thread zero = refl
-entries-silent thread (suc n) = entries-silent (thread + 1) n
+entries_silent thread zero = refl
+entries_silent thread (suc n) = entries_silent (thread + 1) n
 
-log-silent : (n : ℕ) → merged_log (silent n) ≡ []
+log_silent : (n : ℕ) → merged_log (silent n) ≡ []
 unfolding merged_log
-log-silent n = ap (λ (l : List LogEntry). numbered 0 (in_order (upto (frontier (silent n)) l))) (entries-silent 1 n)
+log_silent n = ap (λ (l : List LogEntry). numbered 0 (in_order (upto (frontier (silent n)) l))) (entries_silent 1 n)
 
-pub nothing-taken : (m : Merging) (k : Known) (threads : ℕ) → length m.threads ≡ threads → Merges m no_texts [] → m.refused ≡ None → StandsFor k [] → HasTaken (record { merger = m; dictionary = k }) threads []
-nothing-taken m k threads many stands good known = record {
+pub nothing_taken : (m : Merging) (k : Known) (threads : ℕ) → length m.threads ≡ threads → Merges m no_texts [] → m.refused ≡ None → StandsFor k [] → HasTaken (record { merger = m; dictionary = k }) threads []
+nothing_taken m k threads many stands good known = record {
   records = silent threads;
-  all = length-silent threads;
-  received = received-silent 1 threads;
-  merged = subst (Merges m no_texts) (sym (log-silent threads)) stands;
-  known = subst (StandsFor k) (sym (log-silent threads)) known;
+  all = length_silent threads;
+  received = received_silent 1 threads;
+  merged = subst (Merges m no_texts) (sym (log_silent threads)) stands;
+  known = subst (StandsFor k) (sym (log_silent threads)) known;
   many = many;
   good = good;
 }

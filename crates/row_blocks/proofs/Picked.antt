@@ -10,9 +10,9 @@ use Rattle.row_blocks.specs.Pick.{Commits, Candidate, candidate, is_upto, later,
 use Rattle.row_blocks.specs.Versions.{stands, strike}
 
 -- commits that are the same for each transaction give the same pick
-pub latest_by-same : (c d : Commits) → ((t : ℕ) → c t ≡ d t) → (vs : List Version) → latest_by c vs ≡ latest_by d vs
-latest_by-same c d h [] = refl
-latest_by-same c d h (v ∷ vs) = ap₂ (λ x y. later (candidate v x) y) (h v.txn) (latest_by-same c d h vs)
+pub latest_by_same : (c d : Commits) → ((t : ℕ) → c t ≡ d t) → (vs : List Version) → latest_by c vs ≡ latest_by d vs
+latest_by_same c d h [] = refl
+latest_by_same c d h (v ∷ vs) = ap₂ (λ x y. later (candidate v x) y) (h v.txn) (latest_by_same c d h vs)
 
 pub later_none : (x : Option Candidate) → later x None ≡ x
 later_none None = refl
@@ -23,16 +23,16 @@ candidate_struck v None e = refl
 candidate_struck v (Some p) e = rw e refl
 
 -- a version of a transaction that does not count changes no pick
-pub latest_by-push : (c : Commits) (vs : List Version) (v : Version) → c v.txn ≡ None → latest_by c (vs ++ v ∷ []) ≡ latest_by c vs
-latest_by-push c [] v e = rw e refl
-latest_by-push c (w ∷ vs) v e = ap (λ y. later (candidate w (c w.txn)) y) (latest_by-push c vs v e)
+pub latest_by_push : (c : Commits) (vs : List Version) (v : Version) → c v.txn ≡ None → latest_by c (vs ++ v ∷ []) ≡ latest_by c vs
+latest_by_push c [] v e = rw e refl
+latest_by_push c (w ∷ vs) v e = ap (λ y. later (candidate w (c w.txn)) y) (latest_by_push c vs v e)
 
 pub stands_parts : (t : ℕ) (v : Version) → stands t v ≡ true → (v.txn ≡ t) × (v.struck ≡ false)
 stands_parts t v h = (grind (arith, nat_tests), grind (arith, nat_tests))
 
-pub latest_by-strike : (c : Commits) (t : ℕ) (vs : List Version) → c t ≡ None → latest_by c (strike t vs) ≡ latest_by c vs
-latest_by-strike c t [] e = refl
-latest_by-strike c t (v ∷ vs) e = by_tests (list_any (stands t) vs) (stands t v) refl (latest_by-strike c t vs e)
+pub latest_by_strike : (c : Commits) (t : ℕ) (vs : List Version) → c t ≡ None → latest_by c (strike t vs) ≡ latest_by c vs
+latest_by_strike c t [] e = refl
+latest_by_strike c t (v ∷ vs) e = by_tests (list_any (stands t) vs) (stands t v) refl (latest_by_strike c t vs e)
   where
     by_tests : (x y : Bool) → stands t v ≡ y → latest_by c (strike t vs) ≡ latest_by c vs
         → latest_by c (cond x (v ∷ strike t vs) (cond y (record v { struck = true } ∷ vs) (v ∷ vs))) ≡ latest_by c (v ∷ vs)

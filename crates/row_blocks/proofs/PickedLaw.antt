@@ -14,8 +14,8 @@ use Rattle.row_blocks.specs.declared.version.End.{End}
 use Rattle.row_blocks.specs.Pick.{Commits, counted, row_of, latest_by, picked_by}
 use Rattle.row_blocks.specs.Versions.{Deed, Makes, Strikes, deed_at, after_deed, versions_after, versions_of, earlier, end_of, is_late}
 use Rattle.row_blocks.specs.Law.{IsLog, commits_at, PickedIsCommitted}
-use Rattle.row_blocks.proofs.Picked.{latest_by-same, latest_by-push, latest_by-strike}
-use Rattle.row_blocks.proofs.Walked.{IsTied, tied_walk, ends_after, ends_after-is, end_of-append, placed, Placed, Splits, splits, OfDeed, of_deed, end_of_above, late_counted, IsLateAt, late_walk}
+use Rattle.row_blocks.proofs.Picked.{latest_by_same, latest_by_push, latest_by_strike}
+use Rattle.row_blocks.proofs.Walked.{IsTied, tied_walk, ends_after, ends_after_is, end_of_append, placed, Placed, Splits, splits, OfDeed, of_deed, end_of_above, late_counted, IsLateAt, late_walk}
 
 -- the transactions of an entry's deed at an address do not count
 abbrev pub Spares : Commits → Place → LogEntry → Type 0
@@ -23,24 +23,24 @@ Spares c a e = OfDeed (λ t. c t ≡ None) (deed_at a e.vector)
 
 pub deed_keeps : (c : Commits) (vs : List Version) (pos : ℕ) (d : Option Deed) → OfDeed (λ t. c t ≡ None) d → latest_by c (after_deed vs pos d) ≡ latest_by c vs
 deed_keeps c vs pos None h = refl
-deed_keeps c vs pos (Some (Makes t row)) h = latest_by-push c vs _ h
-deed_keeps c vs pos (Some (Strikes t)) h = latest_by-strike c t vs h
+deed_keeps c vs pos (Some (Makes t row)) h = latest_by_push c vs _ h
+deed_keeps c vs pos (Some (Strikes t)) h = latest_by_strike c t vs h
 
 pub entries_keep : (c : Commits) (a : Place) (vs : List Version) (es : List LogEntry) → AllByRecursion (Spares c a) es → latest_by c (versions_after a vs es) ≡ latest_by c vs
 entries_keep c a vs [] h = refl
 entries_keep c a vs (e ∷ es) h = entries_keep c a (after_deed vs e.pos (deed_at a e.vector)) es h.1 ∙ deed_keeps c vs e.pos (deed_at a e.vector) h.0
 
-pub versions_after-append : (a : Place) (vs : List Version) (xs ys : List LogEntry) → versions_after a vs (xs ++ ys) ≡ versions_after a (versions_after a vs xs) ys
-versions_after-append a vs [] ys = refl
-versions_after-append a vs (e ∷ xs) ys = versions_after-append a (after_deed vs e.pos (deed_at a e.vector)) xs ys
+pub versions_after_append : (a : Place) (vs : List Version) (xs ys : List LogEntry) → versions_after a vs (xs ++ ys) ≡ versions_after a (versions_after a vs xs) ys
+versions_after_append a vs [] ys = refl
+versions_after_append a vs (e ∷ xs) ys = versions_after_append a (after_deed vs e.pos (deed_at a e.vector)) xs ys
 
 -- a test that each entry passes which does something at an address
 abbrev pub Keeps : Place → (LogEntry → Bool) → LogEntry → Type 0
 Keeps a f e = is_some (deed_at a e.vector) ≡ true → f e ≡ true
 
-pub versions_after-filter : (a : Place) (f : LogEntry → Bool) (vs : List Version) (es : List LogEntry) → AllByRecursion (Keeps a f) es → versions_after a vs (filter f es) ≡ versions_after a vs es
-versions_after-filter a f vs [] h = refl
-versions_after-filter a f vs (e ∷ es) h = by_tests (f e) (deed_at a e.vector) refl refl (λ ws. versions_after-filter a f ws es h.1)
+pub versions_after_filter : (a : Place) (f : LogEntry → Bool) (vs : List Version) (es : List LogEntry) → AllByRecursion (Keeps a f) es → versions_after a vs (filter f es) ≡ versions_after a vs es
+versions_after_filter a f vs [] h = refl
+versions_after_filter a f vs (e ∷ es) h = by_tests (f e) (deed_at a e.vector) refl refl (λ ws. versions_after_filter a f ws es h.1)
   where
     by_tests : (b : Bool) (d : Option Deed) → f e ≡ b → deed_at a e.vector ≡ d → ((ws : List Version) → versions_after a ws (filter f es) ≡ versions_after a ws es)
         → versions_after a vs (cond b (e ∷ filter f es) (filter f es)) ≡ versions_after a (after_deed vs e.pos d) es
@@ -77,7 +77,7 @@ pub late_deeds : (log : List LogEntry) (frontier : ℕ) → IsLog log frontier �
     → AllByRecursion (λ e. q < e.scn → OfDeed (λ t. is_late q (end_of log t) ≡ true) (deed_at a e.vector)) log
 late_deeds log frontier h q a =
     each_weaker (IsLateAt a q (ends_after (λ t. None) log)) _
-    (λ e k above. of_deed _ _ (deed_at a e.vector) (λ t. λ late. sym (ap (is_late q) (ends_after-is (λ u. None) log t)) ∙ late) (k above))
+    (λ e k above. of_deed _ _ (deed_at a e.vector) (λ t. λ late. sym (ap (is_late q) (ends_after_is (λ u. None) log t)) ∙ late) (k above))
     log (late_walk a q 1 frontier no_database (λ t. None) log h.sound (λ t. refl) h.scns)
 
 -- The law, with the versions that some of the entries make: all that do something at the address up to q,
@@ -101,8 +101,8 @@ picked_of_some log frontier h q a f keeps =
     -- the ends above q do not count
     same_commits : (t : ℕ) → commits_at log q t ≡ counted q (ends_after (λ u. None) s.low t)
     same_commits t =
-        ap (λ es. counted q (end_of es t)) s.whole ∙ ap (counted q) (end_of-append s.low s.high t)
-        ∙ by_end (end_of s.low t) ∙ sym (ap (counted q) (ends_after-is (λ u. None) s.low t))
+        ap (λ es. counted q (end_of es t)) s.whole ∙ ap (counted q) (end_of_append s.low s.high t)
+        ∙ by_end (end_of s.low t) ∙ sym (ap (counted q) (ends_after_is (λ u. None) s.low t))
       where
         by_end : (x : Option End) → counted q (earlier x (end_of s.high t)) ≡ counted q x
         by_end None = late_counted q (end_of s.high t) (end_of_above q t s.high s.are_high)
@@ -119,12 +119,12 @@ picked_of_some log frontier h q a f keeps =
     latest_parts : latest_by (commits_at log q) (versions_of (filter f log) a) ≡ latest_by (commits_at log q) (versions_after a [] s.low)
     latest_parts =
         ap (λ es. latest_by (commits_at log q) (versions_of es a)) (ap (filter f) s.whole ∙ filter-append f s.low s.high)
-        ∙ ap (latest_by (commits_at log q)) (versions_after-append a [] (filter f s.low) (filter f s.high))
+        ∙ ap (latest_by (commits_at log q)) (versions_after_append a [] (filter f s.low) (filter f s.high))
         ∙ entries_keep (commits_at log q) a (versions_after a [] (filter f s.low)) (filter f s.high) (each_filter (Spares (commits_at log q) a) f s.high high_spares)
-        ∙ ap (latest_by (commits_at log q)) (versions_after-filter a f [] s.low low_keeps)
+        ∙ ap (latest_by (commits_at log q)) (versions_after_filter a f [] s.low low_keeps)
 
     latest_low : latest_by (commits_at log q) (versions_after a [] s.low) ≡ latest_by (λ t. counted q (ends_after (λ u. None) s.low t)) (versions_after a [] s.low)
-    latest_low = latest_by-same _ _ same_commits (versions_after a [] s.low)
+    latest_low = latest_by_same _ _ same_commits (versions_after a [] s.low)
 
 filter_all : {X : Type 0} (xs : List X) → filter (λ x. true) xs ≡ xs
 filter_all [] = refl

@@ -6,24 +6,24 @@ use Rattle.std.proofs.lemmas.List.Elements.{filter-append}
 use Rattle.std.proofs.lemmas.Bool.{lt-ltb, le-ltb, ltb-false, cases_lt, eq-eqb, eqb-true, and_from}
 use Rattle.std.proofs.lemmas.Bool.Decides.{nat_tests}
 use Rattle.std.proofs.lemmas.Option.{none-some, same_Some}
-use Rattle.adg_base.specs.Address.{Place}
+use Rattle.adg_base.specs.Address.{Place, place, same_place}
 use Rattle.adg_base.specs.Shard.{shard_of_block, shard_of_txn, shard_of_vector}
 use Rattle.adg_base.specs.declared.vector.Vector.{Vector}
 use Rattle.adg_base.specs.declared.vector.Vector.TheVariants.{Begin, Put, Delete, Undo, Commit, Abort, Create, DropObject, AddColumn, NoInMemory, EndThread}
 use Rattle.adg_base.specs.declared.log.LogEntry.{LogEntry}
-use Rattle.adg_model.specs.Database.{Rows, place, same_place, rows_at}
+use Rattle.adg_model.specs.Database.{Rows, rows_at}
 use Rattle.adg_model.specs.Sound.{ScnsWithin}
 use Rattle.adg_model.proofs.RowLaws.{rows_stop_at_scn}
-use Rattle.adg_model.proofs.LogLaws.{each_weaker, each-append}
+use Rattle.adg_model.proofs.LogLaws.{each_weaker, each_append}
 use Rattle.row_blocks.specs.declared.version.Version.{Version}
 use Rattle.row_blocks.specs.declared.version.End.{End}
 use Rattle.row_blocks.specs.Pick.{counted, row_of, picked_by}
 use Rattle.row_blocks.specs.Versions.{Deed, deed_at, after_deed, versions_of, end_by, earlier, end_of, is_late}
 use Rattle.row_blocks.specs.Law.{IsLog, commits_at}
 use Rattle.row_blocks.specs.Stands.{Kept, same_shard, is_own, own_below, HasApplied, IsSlot, is_open, StandsFor, HoldsAll, IsNext, after_entry, none_kept, SameKept, StandsForMore}
-use Rattle.row_blocks.proofs.Picked.{latest_by-same}
-use Rattle.row_blocks.proofs.Walked.{earlier_none, end_of-append, placed, Placed, OfDeed, of_deed, late_counted, end_of_above, end_by_above, all_above, Splits, splits}
-use Rattle.row_blocks.proofs.PickedLaw.{deed_keeps, versions_after-append, Keeps, each_and, each_filter, placed_parts, late_deeds, picked_of_some}
+use Rattle.row_blocks.proofs.Picked.{latest_by_same}
+use Rattle.row_blocks.proofs.Walked.{earlier_none, end_of_append, placed, Placed, OfDeed, of_deed, late_counted, end_of_above, end_by_above, all_above, Splits, splits}
+use Rattle.row_blocks.proofs.PickedLaw.{deed_keeps, versions_after_append, Keeps, each_and, each_filter, placed_parts, late_deeds, picked_of_some}
 use Rattle.row_blocks.proofs.Floor.{picked_through, open_deed, IsParted}
 
 -- an entry that does something at an address of a shard is one of its own
@@ -171,7 +171,7 @@ ends_parted log frontier h floor = (
     sides : (t : ℕ) (e : End) → end_of log t ≡ Some e → IsSide floor (length s.low) e.pos e.scn
     sides t e k =
         end_of_each (IsSide floor (length s.low)) t (s.low ++ s.high) e
-        (each-append (λ x. IsSide floor (length s.low) x.pos x.scn) s.low s.high
+        (each_append (λ x. IsSide floor (length s.low) x.pos x.scn) s.low s.high
         (each_and _ _ _ s.low (λ x p q. let q' : x.pos < 0 + length s.low = q in inl (p, omega arith)) s.are_low (placed_below 0 s.low (placed_parts 0 s.low s.high places)))
         (each_and _ _ _ s.high (λ x p q. let q' : 0 + length s.low ≤ x.pos = q in inr (p, omega arith)) s.are_high (placed_above (0 + length s.low) s.high (placed_rest 0 s.low s.high places))))
         (ap (λ es. end_of es t) (sym s.whole) ∙ k)
@@ -292,13 +292,13 @@ end_once t e = earlier_none (end_by t e.pos e.scn e.vector)
 ends_next : (kept : Kept) (log : List LogEntry) (e : LogEntry) → Placed 0 log → IsNext kept log e → (t : ℕ) → kept.ends t ≡ end_of (own_below kept.number kept.applied log) t
     → earlier (kept.ends t) (end_by t e.pos e.scn e.vector) ≡ end_of (own_below kept.number (e.pos + 1) log) t
 ends_next kept log e places s t h =
-    ap₂ earlier h (sym (end_once t e)) ∙ sym (end_of-append (own_below kept.number kept.applied log) (e ∷ []) t)
+    ap₂ earlier h (sym (end_once t e)) ∙ sym (end_of_append (own_below kept.number kept.applied log) (e ∷ []) t)
     ∙ ap (λ es. end_of es t) (sym (own_next kept log e places s))
 
 versions_next : (kept : Kept) (log : List LogEntry) (e : LogEntry) → Placed 0 log → IsNext kept log e → (a : Place)
     → versions_of (own_below kept.number (e.pos + 1) log) a ≡ after_deed (versions_of (own_below kept.number kept.applied log) a) e.pos (deed_at a e.vector)
 versions_next kept log e places s a =
-    ap (λ es. versions_of es a) (own_next kept log e places s) ∙ versions_after-append a [] (own_below kept.number kept.applied log) (e ∷ [])
+    ap (λ es. versions_of es a) (own_next kept log e places s) ∙ versions_after_append a [] (own_below kept.number kept.applied log) (e ∷ [])
 
 -- what holds of each entry of a log holds of one of them
 pub each_at : (P : LogEntry → Type 0) (before rest : List LogEntry) (e : LogEntry) → AllByRecursion P (before ++ e ∷ rest) → P e
@@ -401,14 +401,14 @@ own_longer n pos log more places l =
     ∙ append-nil (own_below n pos log)
 
 late_longer : (floor t : ℕ) (log more : List LogEntry) → AllByRecursion (λ e. floor < e.scn) more → is_late floor (end_of (log ++ more) t) ≡ is_late floor (end_of log t)
-late_longer floor t log more h = ap (is_late floor) (end_of-append log more t) ∙ by_end (end_of log t)
+late_longer floor t log more h = ap (is_late floor) (end_of_append log more t) ∙ by_end (end_of log t)
   where
     by_end : (x : Option End) → is_late floor (earlier x (end_of more t)) ≡ is_late floor x
     by_end None = end_of_above floor t more h
     by_end (Some e) = refl
 
 pub commits_longer : (floor t : ℕ) (log more : List LogEntry) → AllByRecursion (λ e. floor < e.scn) more → commits_at (log ++ more) floor t ≡ commits_at log floor t
-commits_longer floor t log more h = ap (counted floor) (end_of-append log more t) ∙ by_end (end_of log t)
+commits_longer floor t log more h = ap (counted floor) (end_of_append log more t) ∙ by_end (end_of log t)
   where
     by_end : (x : Option End) → counted floor (earlier x (end_of more t)) ≡ counted floor x
     by_end None = late_counted floor (end_of more t) (end_of_above floor t more h)
@@ -421,14 +421,14 @@ open_longer floor log more (v ∷ vs) h = rw (late_longer floor v.txn log more h
 pub stands_longer : (kept : Kept) (log more : List LogEntry) (floor : ℕ) → StandsFor kept log floor → Placed 0 (log ++ more) → AllByRecursion (λ e. floor < e.scn) more → StandsFor kept (log ++ more) floor
 stands_longer kept log more floor s places above = record {
   within = let l : kept.applied ≤ length log = s.within in let e : length (log ++ more) ≡ length log + length more = length-append log more in omega arith;
-  reached = each-append _ log more s.reached (each_weaker (λ e. floor < e.scn) _ (λ e k m o. let k' : floor < e.scn = k in absurd (omega arith)) more above);
+  reached = each_append _ log more s.reached (each_weaker (λ e. floor < e.scn) _ (λ e k m o. let k' : floor < e.scn = k in absurd (omega arith)) more above);
   ends = λ t. s.ends t ∙ ap (λ es. end_of es t) (sym (own_longer kept.number kept.applied log more places s.within));
   open_versions = λ a slot.
       open_longer floor log more (kept.versions a) above ∙ s.open_versions a slot
       ∙ sym (open_longer floor log more (versions_of (own_below kept.number kept.applied log) a) above)
       ∙ ap (λ es. filter (is_open floor (log ++ more)) (versions_of es a)) (sym (own_longer kept.number kept.applied log more places s.within));
   at_floor = λ a slot own.
-      ap row_of (latest_by-same (commits_at (log ++ more) floor) (commits_at log floor) (λ t. commits_longer floor t log more above) (kept.versions a))
+      ap row_of (latest_by_same (commits_at (log ++ more) floor) (commits_at log floor) (λ t. commits_longer floor t log more above) (kept.versions a))
       ∙ s.at_floor a slot own
       ∙ sym (ap (λ (f : Rows). f a) (rows_stop_at_scn log more floor above).0);
 }

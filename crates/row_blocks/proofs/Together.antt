@@ -8,7 +8,7 @@ use Rattle.adg_base.specs.declared.log.LogEntry.{LogEntry}
 use Rattle.adg_model.specs.Log.{numbered}
 use Rattle.adg_model.specs.Database.{rows_at}
 use Rattle.adg_model.specs.Sound.{ScnsWithin, IsContinuation}
-use Rattle.adg_model.proofs.LogLaws.{each_weaker, each-append, numbered-append}
+use Rattle.adg_model.proofs.LogLaws.{each_weaker, each_append, numbered_append}
 use Rattle.row_blocks.specs.declared.version.Version.{Version}
 use Rattle.row_blocks.specs.declared.version.End.{End}
 use Rattle.row_blocks.specs.Pick.{counted, candidate, row_of, latest, picked_by, candidates, picked}
@@ -16,7 +16,7 @@ use Rattle.row_blocks.specs.Law.{IsLog, commits_at}
 use Rattle.row_blocks.specs.Stands.{Kept, none_kept, is_own, own_below, is_open, IsSlot, HasApplied, StandsFor, HoldsAll, IsNext, after_entry, SameKept, HasPassed, StandsFromStart}
 use Rattle.row_blocks.specs.Shards.{Shards, Serves, PickGivesRow, ShardsGiveRows, StandAt, StandAtStart, PassesEntry, KeepSame, PassedGiveRows}
 use Rattle.row_blocks.specs.Versions.{versions_of, end_of, is_late}
-use Rattle.row_blocks.proofs.Picked.{latest_by-same}
+use Rattle.row_blocks.proofs.Picked.{latest_by_same}
 use Rattle.row_blocks.proofs.Walked.{Placed, placed, all_above}
 use Rattle.row_blocks.proofs.Stands.{stands_picked, stands_end, stands_next, stands_longer, holds_longer, none_holds, none_stands_for, stands_same, holds_same, position}
 
@@ -34,7 +34,7 @@ pub picked_apart : (log : List LogEntry) (frontier floor q : ℕ) → IsLog log 
     → (of_txn : ℕ → Kept) → ((t : ℕ) → Serves (of_txn t) (shard_of_txn t) log floor q)
     → picked_by (λ t. counted q ((of_txn t).ends t)) (block.versions a) ≡ rows_at log q a
 picked_apart log frontier floor q h l a slot block b of_txn s =
-    ap row_of (latest_by-same (λ t. counted q ((of_txn t).ends t)) (commits_at log q)
+    ap row_of (latest_by_same (λ t. counted q ((of_txn t).ends t)) (commits_at log q)
     (λ t. stands_end log frontier h (of_txn t) floor q t (s t).stands (s t).applied (sym (s t).number)) (block.versions a))
     ∙ stands_picked log frontier h block floor q b.stands l b.applied a slot (sym b.number)
 
@@ -63,7 +63,7 @@ passed_own kept first e p h =
     let u : kept.applied ≤ length first = h.upto in
     let l : length (first ++ e ∷ []) ≡ length first + 1 = length-append first (e ∷ []) in
     record {
-      applied = each-append _ first (e ∷ [])
+      applied = each_append _ first (e ∷ [])
           (each_weaker (λ x. is_own kept.number x ≡ true → x.pos < kept.applied) (λ x. is_own kept.number x ≡ true → x.pos < e.pos + 1) (λ x f o. let k : x.pos < kept.applied = f o in omega arith) first h.applied)
           (λ o. omega arith, tt);
       upto = omega arith;
@@ -74,7 +74,7 @@ passed_other kept first e other h =
     let u : kept.applied ≤ length first = h.upto in
     let l : length (first ++ e ∷ []) ≡ length first + 1 = length-append first (e ∷ []) in
     record {
-      applied = each-append (λ x. is_own kept.number x ≡ true → x.pos < kept.applied) first (e ∷ []) h.applied (λ o. absurd (true≢false (sym o ∙ other)), tt);
+      applied = each_append (λ x. is_own kept.number x ≡ true → x.pos < kept.applied) first (e ∷ []) h.applied (λ o. absurd (true≢false (sym o ∙ other)), tt);
       upto = omega arith;
     }
 
@@ -87,19 +87,19 @@ scns_lower : (low high top : ℕ) (es : List LogEntry) → low ≤ high → Scns
 scns_lower low high top [] l h = tt
 scns_lower low high top (e ∷ es) l h = let k : high ≤ e.scn = h.0 in (omega arith, h.1, h.2)
 
-scns-append : (low old new : ℕ) (xs ys : List LogEntry) → low ≤ old + 1 → old ≤ new → ScnsWithin low old xs → ScnsWithin (old + 1) new ys → ScnsWithin low new (xs ++ ys)
-scns-append low old new [] ys l f h k = scns_lower low (old + 1) new ys l k
-scns-append low old new (x ∷ xs) ys l f h k =
+scns_append : (low old new : ℕ) (xs ys : List LogEntry) → low ≤ old + 1 → old ≤ new → ScnsWithin low old xs → ScnsWithin (old + 1) new ys → ScnsWithin low new (xs ++ ys)
+scns_append low old new [] ys l f h k = scns_lower low (old + 1) new ys l k
+scns_append low old new (x ∷ xs) ys l f h k =
     let m : x.scn ≤ old = h.1 in
-    (h.0, omega arith, scns-append x.scn old new xs ys (omega arith) f h.2 k)
+    (h.0, omega arith, scns_append x.scn old new xs ys (omega arith) f h.2 k)
 
 -- entries that continue a log
 pub log_continued : (log entries : List LogEntry) (old new : ℕ) → IsLog log old → IsContinuation log old entries new → IsLog (log ++ entries) new
 log_continued log entries old new h c = record {
   sound = c.sound;
-  places = numbered-append 0 log entries
+  places = numbered_append 0 log entries
       ∙ ap₂ (λ x y. x ++ y) h.places (let e : 0 + length log ≡ length log = omega arith in ap (λ n. numbered n entries) e ∙ c.places);
-  scns = scns-append 1 old new log entries (omega arith) c.forward h.scns c.scns;
+  scns = scns_append 1 old new log entries (omega arith) c.forward h.scns c.scns;
 }
 
 pub stands_continued : (kept : Kept) (log entries : List LogEntry) (floor old new : ℕ) → IsLog log old → IsContinuation log old entries new → floor ≤ old → StandsFor kept log floor → StandsFor kept (log ++ entries) floor

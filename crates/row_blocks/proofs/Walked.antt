@@ -5,13 +5,13 @@ use Rattle.std.specs.Option.{is_some}
 use Rattle.std.proofs.lemmas.Bool.{eqb-true, and_parts, not-true, le-leb, leb-true, leb-false, lt-ltb}
 use Rattle.std.proofs.lemmas.Option.{same_Some, none-some}
 use Rattle.std.proofs.lemmas.Bool.Decides.{nat_tests}
-use Rattle.adg_base.specs.Address.{Place}
+use Rattle.adg_base.specs.Address.{Place, place, same_place}
 use Rattle.adg_base.specs.declared.value.Value.{Value}
 use Rattle.adg_base.specs.declared.vector.Vector.{Vector}
 use Rattle.adg_base.specs.declared.vector.Vector.TheVariants.{Begin, Put, Delete, Undo, Commit, Abort, Create, DropObject, AddColumn, NoInMemory, EndThread}
 use Rattle.adg_base.specs.declared.log.LogEntry.{LogEntry}
 use Rattle.adg_model.specs.Log.{numbered, upto}
-use Rattle.adg_model.specs.Database.{Rows, Change, Database, place, same_place, played, struck, set_at, after, walked}
+use Rattle.adg_model.specs.Database.{Rows, Change, Database, played, struck, set_at, after, walked}
 use Rattle.adg_model.specs.declared.fault.CheckKind.{CheckKind}
 use Rattle.adg_model.specs.Sound.{demand, refusal, SoundFrom, ScnsWithin, is_running}
 use Rattle.adg_model.proofs.LogLaws.{upto_none}
@@ -19,7 +19,7 @@ use Rattle.row_blocks.specs.declared.version.Version.{Version}
 use Rattle.row_blocks.specs.declared.version.End.{End}
 use Rattle.row_blocks.specs.Pick.{counted, later, row_of, latest_by}
 use Rattle.row_blocks.specs.Versions.{Deed, Makes, Strikes, deed_at, stands, strike, after_deed, versions_after, end_by, earlier, end_of, is_late}
-use Rattle.row_blocks.proofs.Picked.{latest_by-same, latest_by-push, latest_by-strike, standing, Rising, CommitsAt, won, first_or, won_row}
+use Rattle.row_blocks.proofs.Picked.{latest_by_same, latest_by_push, latest_by_strike, standing, Rising, CommitsAt, won, first_or, won_row}
 
 abbrev pub Row : Type 0
 Row = Option (List Value)
@@ -33,17 +33,17 @@ abbrev pub tail : List Row → List Row
 tail [] = []
 tail (r ∷ rs) = rs
 
-pub played-here : (a : Place) (cs : List Change) (rows : Rows) → played cs rows a ≡ first_or (here a cs) (rows a)
-played-here a [] rows = refl
-played-here a (c ∷ cs) rows = by_test (same_place a c.at) (played-here a cs rows)
+pub played_here : (a : Place) (cs : List Change) (rows : Rows) → played cs rows a ≡ first_or (here a cs) (rows a)
+played_here a [] rows = refl
+played_here a (c ∷ cs) rows = by_test (same_place a c.at) (played_here a cs rows)
   where
     by_test : (b : Bool) → played cs rows a ≡ first_or (here a cs) (rows a) → cond b c.row (played cs rows a) ≡ first_or (cond b (c.row ∷ here a cs) (here a cs)) (rows a)
     by_test true ih = refl
     by_test false ih = ih
 
-here-struck : (a : Place) (cs : List Change) → here a (struck a cs) ≡ tail (here a cs)
-here-struck a [] = refl
-here-struck a (c ∷ cs) = by_test (same_place a c.at) refl (here-struck a cs)
+here_struck : (a : Place) (cs : List Change) → here a (struck a cs) ≡ tail (here a cs)
+here_struck a [] = refl
+here_struck a (c ∷ cs) = by_test (same_place a c.at) refl (here_struck a cs)
   where
     by_test : (b : Bool) → same_place a c.at ≡ b → here a (struck a cs) ≡ tail (here a cs) → here a (cond b cs (c ∷ struck a cs)) ≡ tail (cond b (c.row ∷ here a cs) (here a cs))
     by_test true e ih = refl
@@ -53,9 +53,9 @@ here-struck a (c ∷ cs) = by_test (same_place a c.at) refl (here-struck a cs)
 same_by : (a b c : Place) → same_place a b ≡ true → same_place a c ≡ same_place b c
 same_by a b c h = grind (arith, nat_tests)
 
-here-struck_other : (a b : Place) (cs : List Change) → same_place a b ≡ false → here a (struck b cs) ≡ here a cs
-here-struck_other a b [] h = refl
-here-struck_other a b (c ∷ cs) h = by_tests (same_place b c.at) refl (here-struck_other a b cs h)
+here_struck_other : (a b : Place) (cs : List Change) → same_place a b ≡ false → here a (struck b cs) ≡ here a cs
+here_struck_other a b [] h = refl
+here_struck_other a b (c ∷ cs) h = by_tests (same_place b c.at) refl (here_struck_other a b cs h)
   where
     apart : same_place b c.at ≡ true → same_place a c.at ≡ false
     apart k = grind (arith, nat_tests)
@@ -65,44 +65,44 @@ here-struck_other a b (c ∷ cs) h = by_tests (same_place b c.at) refl (here-str
     by_tests false e ih = ap (λ l. cond (same_place a c.at) (c.row ∷ l) l) ih
 
 -- a strike at the same address
-here-struck_same : (a b : Place) (cs : List Change) → same_place a b ≡ true → here a (struck b cs) ≡ tail (here a cs)
-here-struck_same a b [] h = refl
-here-struck_same a b (c ∷ cs) h = rw (same_by a b c.at h) (by_test (same_place b c.at) refl (here-struck_same a b cs h))
+here_struck_same : (a b : Place) (cs : List Change) → same_place a b ≡ true → here a (struck b cs) ≡ tail (here a cs)
+here_struck_same a b [] h = refl
+here_struck_same a b (c ∷ cs) h = rw (same_by a b c.at h) (by_test (same_place b c.at) refl (here_struck_same a b cs h))
   where
     by_test : (x : Bool) → same_place b c.at ≡ x → here a (struck b cs) ≡ tail (here a cs) → here a (cond x cs (c ∷ struck b cs)) ≡ tail (cond x (c.row ∷ here a cs) (here a cs))
     by_test true e ih = refl
     by_test false e ih = rw (same_by a b c.at h ∙ e) ih
 
 -- a version at the end
-standing-push : (t : ℕ) (vs : List Version) (v : Version) → standing t (vs ++ v ∷ []) ≡ cond (stands t v) (v.row ∷ standing t vs) (standing t vs)
-standing-push t [] v = by_test (stands t v)
+standing_push : (t : ℕ) (vs : List Version) (v : Version) → standing t (vs ++ v ∷ []) ≡ cond (stands t v) (v.row ∷ standing t vs) (standing t vs)
+standing_push t [] v = by_test (stands t v)
   where
     by_test : (b : Bool) → [] ++ cond b (v.row ∷ []) [] ≡ cond b (v.row ∷ []) []
     by_test true = refl
     by_test false = refl
-standing-push t (w ∷ vs) v = by_test (stands t v) (standing-push t vs v)
+standing_push t (w ∷ vs) v = by_test (stands t v) (standing_push t vs v)
   where
     by_test : (b : Bool) → standing t (vs ++ v ∷ []) ≡ cond b (v.row ∷ standing t vs) (standing t vs)
         → standing t (vs ++ v ∷ []) ++ cond (stands t w) (w.row ∷ []) [] ≡ cond b (v.row ∷ standing t (w ∷ vs)) (standing t (w ∷ vs))
     by_test true ih = ap (λ l. l ++ cond (stands t w) (w.row ∷ []) []) ih
     by_test false ih = ap (λ l. l ++ cond (stands t w) (w.row ∷ []) []) ih
 
-pub rising-push : (low : ℕ) (vs : List Version) (v : Version) → Rising low vs → AllByRecursion (λ w. w.pos < v.pos) vs → low ≤ v.pos → Rising low (vs ++ v ∷ [])
-rising-push low [] v h k l = (l, tt)
-rising-push low (w ∷ vs) v h k l = let m : w.pos < v.pos = k.0 in (h.0, rising-push (w.pos + 1) vs v h.1 k.1 (omega arith))
+pub rising_push : (low : ℕ) (vs : List Version) (v : Version) → Rising low vs → AllByRecursion (λ w. w.pos < v.pos) vs → low ≤ v.pos → Rising low (vs ++ v ∷ [])
+rising_push low [] v h k l = (l, tt)
+rising_push low (w ∷ vs) v h k l = let m : w.pos < v.pos = k.0 in (h.0, rising_push (w.pos + 1) vs v h.1 k.1 (omega arith))
 
-pub rising-strike : (low t : ℕ) (vs : List Version) → Rising low vs → Rising low (strike t vs)
-rising-strike low t [] h = tt
-rising-strike low t (v ∷ vs) h = by_tests (list_any (stands t) vs) (stands t v) (rising-strike (v.pos + 1) t vs h.1)
+pub rising_strike : (low t : ℕ) (vs : List Version) → Rising low vs → Rising low (strike t vs)
+rising_strike low t [] h = tt
+rising_strike low t (v ∷ vs) h = by_tests (list_any (stands t) vs) (stands t v) (rising_strike (v.pos + 1) t vs h.1)
   where
     by_tests : (x y : Bool) → Rising (v.pos + 1) (strike t vs) → Rising low (cond x (v ∷ strike t vs) (cond y (record v { struck = true } ∷ vs) (v ∷ vs)))
     by_tests true y ih = (h.0, ih)
     by_tests false true ih = h
     by_tests false false ih = h
 
-pub below-strike : (pos t : ℕ) (vs : List Version) → AllByRecursion (λ w. w.pos < pos) vs → AllByRecursion (λ w. w.pos < pos) (strike t vs)
-below-strike pos t [] h = tt
-below-strike pos t (v ∷ vs) h = by_tests (list_any (stands t) vs) (stands t v) (below-strike pos t vs h.1)
+pub below_strike : (pos t : ℕ) (vs : List Version) → AllByRecursion (λ w. w.pos < pos) vs → AllByRecursion (λ w. w.pos < pos) (strike t vs)
+below_strike pos t [] h = tt
+below_strike pos t (v ∷ vs) h = by_tests (list_any (stands t) vs) (stands t v) (below_strike pos t vs h.1)
   where
     by_tests : (x y : Bool) → AllByRecursion (λ w. w.pos < pos) (strike t vs) → AllByRecursion (λ w. w.pos < pos) (cond x (v ∷ strike t vs) (cond y (record v { struck = true } ∷ vs) (v ∷ vs)))
     by_tests true y ih = (h.0, ih)
@@ -121,29 +121,29 @@ abbrev IsMore : List Row → Type 0
 IsMore [] = ⊥
 IsMore (r ∷ rs) = Unit {0}
 
-more-append : (rs qs : List Row) → IsMore rs → IsMore (rs ++ qs)
-more-append [] qs h = absurd h
-more-append (r ∷ rs) qs h = tt
+more_append : (rs qs : List Row) → IsMore rs → IsMore (rs ++ qs)
+more_append [] qs h = absurd h
+more_append (r ∷ rs) qs h = tt
 
-more-append_one : (rs : List Row) (r : Row) → IsMore (rs ++ r ∷ [])
-more-append_one [] r = tt
-more-append_one (q ∷ rs) r = tt
+more_append_one : (rs : List Row) (r : Row) → IsMore (rs ++ r ∷ [])
+more_append_one [] r = tt
+more_append_one (q ∷ rs) r = tt
 
-tail-append : (rs qs : List Row) → IsMore rs → tail (rs ++ qs) ≡ tail rs ++ qs
-tail-append [] qs h = absurd h
-tail-append (r ∷ rs) qs h = refl
+tail_append : (rs qs : List Row) → IsMore rs → tail (rs ++ qs) ≡ tail rs ++ qs
+tail_append [] qs h = absurd h
+tail_append (r ∷ rs) qs h = refl
 
 some_stands : (t : ℕ) (vs : List Version) → list_any (stands t) vs ≡ true → IsMore (standing t vs)
 some_stands t [] h = absurd (true≢false (sym h))
 some_stands t (v ∷ vs) h = by_test (stands t v) h (some_stands t vs)
   where
     by_test : (b : Bool) → (b || list_any (stands t) vs) ≡ true → (list_any (stands t) vs ≡ true → IsMore (standing t vs)) → IsMore (standing t vs ++ cond b (v.row ∷ []) [])
-    by_test true k ih = more-append_one (standing t vs) v.row
-    by_test false k ih = more-append (standing t vs) [] (ih k)
+    by_test true k ih = more_append_one (standing t vs) v.row
+    by_test false k ih = more_append (standing t vs) [] (ih k)
 
-standing-strike : (t : ℕ) (vs : List Version) → standing t (strike t vs) ≡ tail (standing t vs)
-standing-strike t [] = refl
-standing-strike t (v ∷ vs) = by_tests (list_any (stands t) vs) (stands t v) refl refl (standing-strike t vs)
+standing_strike : (t : ℕ) (vs : List Version) → standing t (strike t vs) ≡ tail (standing t vs)
+standing_strike t [] = refl
+standing_strike t (v ∷ vs) = by_tests (list_any (stands t) vs) (stands t v) refl refl (standing_strike t vs)
   where
     struck_stands : stands t (record v { struck = true }) ≡ false
     struck_stands = by_test (v.txn == t)
@@ -155,13 +155,13 @@ standing-strike t (v ∷ vs) = by_tests (list_any (stands t) vs) (stands t v) re
     by_tests : (x y : Bool) → list_any (stands t) vs ≡ x → stands t v ≡ y → standing t (strike t vs) ≡ tail (standing t vs)
         → standing t (cond x (v ∷ strike t vs) (cond y (record v { struck = true } ∷ vs) (v ∷ vs))) ≡ tail (standing t vs ++ cond y (v.row ∷ []) [])
     by_tests true y e k ih =
-        ap₂ (λ l b. l ++ cond b (v.row ∷ []) []) ih k ∙ sym (tail-append (standing t vs) (cond y (v.row ∷ []) []) (some_stands t vs e))
+        ap₂ (λ l b. l ++ cond b (v.row ∷ []) []) ih k ∙ sym (tail_append (standing t vs) (cond y (v.row ∷ []) []) (some_stands t vs e))
     by_tests false true e k ih = rw (none_stands t vs e, struck_stands) refl
     by_tests false false e k ih = rw (none_stands t vs e, k) refl
 
-standing-strike_other : (u t : ℕ) (vs : List Version) → (u == t) ≡ false → standing u (strike t vs) ≡ standing u vs
-standing-strike_other u t [] h = refl
-standing-strike_other u t (v ∷ vs) h = by_tests (list_any (stands t) vs) (stands t v) refl (standing-strike_other u t vs h)
+standing_strike_other : (u t : ℕ) (vs : List Version) → (u == t) ≡ false → standing u (strike t vs) ≡ standing u vs
+standing_strike_other u t [] h = refl
+standing_strike_other u t (v ∷ vs) h = by_tests (list_any (stands t) vs) (stands t v) refl (standing_strike_other u t vs h)
   where
     apart : stands t v ≡ true → stands u v ≡ false
     apart k = grind (arith, nat_tests)
@@ -205,7 +205,7 @@ not_ended a q db vs ends pos s t h = none_of (ends t) (sym (s.ended t) ∙ h)
 tied_same : (a : Place) (q : ℕ) (db next : Database) (vs : List Version) (ends more : ℕ → Option End) (pos : ℕ) → IsTied a q db vs ends pos
     → next.rows ≡ db.rows → next.pending ≡ db.pending → next.ended ≡ db.ended → ((t : ℕ) → more t ≡ ends t) → IsTied a q next vs more (pos + 1)
 tied_same a q db next vs ends more pos s r p e m = record {
-  row = ap (λ f. f a) r ∙ s.row ∙ ap row_of (latest_by-same (λ t. counted q (ends t)) (λ t. counted q (more t)) (λ t. ap (counted q) (sym (m t))) vs);
+  row = ap (λ f. f a) r ∙ s.row ∙ ap row_of (latest_by_same (λ t. counted q (ends t)) (λ t. counted q (more t)) (λ t. ap (counted q) (sym (m t))) vs);
   pending = λ t k. ap (λ f. here a (f t)) p ∙ s.pending t (sym (ap (λ f. f t) e) ∙ k);
   ended = λ t. ap (λ f. f t) e ∙ s.ended t ∙ ap is_some (sym (m t));
   below = λ t x k. let h : x.pos < pos = s.below t x (sym (m t) ∙ k) in omega arith;
@@ -226,7 +226,7 @@ pending_makes a b t u row pos vs f x h s = by_tests x (u == t) h refl
         by_eq false k = grind (arith, nat_tests)
 
     pushed : (y : Bool) → (u == t) ≡ y → standing u (vs ++ record { pos = pos; txn = t; row = row; struck = false } ∷ []) ≡ cond (y && true) (row ∷ standing u vs) (standing u vs)
-    pushed y e = standing-push u vs (record { pos = pos; txn = t; row = row; struck = false }) ∙ ap (λ z. cond (z && true) (row ∷ standing u vs) (standing u vs)) (flip y e)
+    pushed y e = standing_push u vs (record { pos = pos; txn = t; row = row; struck = false }) ∙ ap (λ z. cond (z && true) (row ∷ standing u vs) (standing u vs)) (flip y e)
 
     own : (u == t) ≡ true → here a (f t) ≡ standing u vs
     own e = ap (λ n. here a (f n)) (sym (eqb-true u t e)) ∙ s
@@ -254,16 +254,16 @@ tied_makes a q db next vs ends more pos s t b row run r p e m = by_test (same_pl
     by_test : (x : Bool) → same_place a b ≡ x → IsTied a q next (after_deed vs pos (cond x (Some (Makes t row)) None)) more (pos + 1)
     by_test true h = record {
       row = ap (λ f. f a) r ∙ s.row
-          ∙ ap row_of (sym (latest_by-push (λ u. counted q (ends u)) vs (record { pos = pos; txn = t; row = row; struck = false }) (ap (counted q) (not_ended a q db vs ends pos s t run)))
-          ∙ latest_by-same (λ u. counted q (ends u)) (λ u. counted q (more u)) (λ u. ap (counted q) (sym (m u))) (vs ++ record { pos = pos; txn = t; row = row; struck = false } ∷ []));
+          ∙ ap row_of (sym (latest_by_push (λ u. counted q (ends u)) vs (record { pos = pos; txn = t; row = row; struck = false }) (ap (counted q) (not_ended a q db vs ends pos s t run)))
+          ∙ latest_by_same (λ u. counted q (ends u)) (λ u. counted q (more u)) (λ u. ap (counted q) (sym (m u))) (vs ++ record { pos = pos; txn = t; row = row; struck = false } ∷ []));
       pending = pending true h;
       ended = λ u. ap (λ f. f u) e ∙ s.ended u ∙ ap is_some (sym (m u));
       below = λ u x k. let h : x.pos < pos = s.below u x (sym (m u) ∙ k) in omega arith;
-      rising = rising-push 0 vs (record { pos = pos; txn = t; row = row; struck = false }) s.rising s.before (omega arith);
+      rising = rising_push 0 vs (record { pos = pos; txn = t; row = row; struck = false }) s.rising s.before (omega arith);
       before = all_below_push (pos + 1) vs (record { pos = pos; txn = t; row = row; struck = false }) (omega arith) (all_below_more pos (pos + 1) vs (omega arith) s.before);
     }
     by_test false h = record {
-      row = ap (λ f. f a) r ∙ s.row ∙ ap row_of (latest_by-same (λ u. counted q (ends u)) (λ u. counted q (more u)) (λ u. ap (counted q) (sym (m u))) vs);
+      row = ap (λ f. f a) r ∙ s.row ∙ ap row_of (latest_by_same (λ u. counted q (ends u)) (λ u. counted q (more u)) (λ u. ap (counted q) (sym (m u))) vs);
       pending = pending false h;
       ended = λ u. ap (λ f. f u) e ∙ s.ended u ∙ ap is_some (sym (m u));
       below = λ u x k. let h : x.pos < pos = s.below u x (sym (m u) ∙ k) in omega arith;
@@ -280,9 +280,9 @@ pending_strikes a b t u pos vs f x h s = by_tests x (u == t) h refl
     own e = ap (λ n. here a (f n)) (sym (eqb-true u t e)) ∙ s ∙ ap (λ n. standing n vs) (eqb-true u t e)
 
     by_tests : (z y : Bool) → same_place a b ≡ z → (u == t) ≡ y → here a (cond y (struck b (f t)) (f u)) ≡ standing u (after_deed vs pos (cond z (Some (Strikes t)) None))
-    by_tests true true k e = here-struck_same a b (f t) k ∙ ap tail (own e) ∙ sym (standing-strike t vs) ∙ ap (λ n. standing n (strike t vs)) (sym (eqb-true u t e))
-    by_tests true false k e = s ∙ sym (standing-strike_other u t vs e)
-    by_tests false true k e = here-struck_other a b (f t) k ∙ own e ∙ ap (λ n. standing n vs) (sym (eqb-true u t e))
+    by_tests true true k e = here_struck_same a b (f t) k ∙ ap tail (own e) ∙ sym (standing_strike t vs) ∙ ap (λ n. standing n (strike t vs)) (sym (eqb-true u t e))
+    by_tests true false k e = s ∙ sym (standing_strike_other u t vs e)
+    by_tests false true k e = here_struck_other a b (f t) k ∙ own e ∙ ap (λ n. standing n vs) (sym (eqb-true u t e))
     by_tests false false k e = s
 
 -- a strike of a transaction that runs
@@ -298,16 +298,16 @@ tied_strikes a q db next vs ends more pos s t b run r p e m = by_test (same_plac
     by_test : (x : Bool) → same_place a b ≡ x → IsTied a q next (after_deed vs pos (cond x (Some (Strikes t)) None)) more (pos + 1)
     by_test true h = record {
       row = ap (λ f. f a) r ∙ s.row
-          ∙ ap row_of (sym (latest_by-strike (λ u. counted q (ends u)) t vs (ap (counted q) (not_ended a q db vs ends pos s t run)))
-          ∙ latest_by-same (λ u. counted q (ends u)) (λ u. counted q (more u)) (λ u. ap (counted q) (sym (m u))) (strike t vs));
+          ∙ ap row_of (sym (latest_by_strike (λ u. counted q (ends u)) t vs (ap (counted q) (not_ended a q db vs ends pos s t run)))
+          ∙ latest_by_same (λ u. counted q (ends u)) (λ u. counted q (more u)) (λ u. ap (counted q) (sym (m u))) (strike t vs));
       pending = pending true h;
       ended = λ u. ap (λ f. f u) e ∙ s.ended u ∙ ap is_some (sym (m u));
       below = λ u x k. let h : x.pos < pos = s.below u x (sym (m u) ∙ k) in omega arith;
-      rising = rising-strike 0 t vs s.rising;
-      before = below-strike (pos + 1) t vs (all_below_more pos (pos + 1) vs (omega arith) s.before);
+      rising = rising_strike 0 t vs s.rising;
+      before = below_strike (pos + 1) t vs (all_below_more pos (pos + 1) vs (omega arith) s.before);
     }
     by_test false h = record {
-      row = ap (λ f. f a) r ∙ s.row ∙ ap row_of (latest_by-same (λ u. counted q (ends u)) (λ u. counted q (more u)) (λ u. ap (counted q) (sym (m u))) vs);
+      row = ap (λ f. f a) r ∙ s.row ∙ ap row_of (latest_by_same (λ u. counted q (ends u)) (λ u. counted q (more u)) (λ u. ap (counted q) (sym (m u))) vs);
       pending = pending false h;
       ended = λ u. ap (λ f. f u) e ∙ s.ended u ∙ ap is_some (sym (m u));
       below = λ u x k. let h : x.pos < pos = s.below u x (sym (m u) ∙ k) in omega arith;
@@ -373,7 +373,7 @@ module _ (a : Place) (q : ℕ) (db : Database) (vs : List Version) (ends : ℕ �
       → ((u : ℕ) → more u ≡ cond (u == t) (Some (record { pos = pos; scn = scn; committed = true })) (ends u))
       → played (db.pending t) db.rows a ≡ row_of (latest_by (λ u. counted q (more u)) vs)
   commit_row t run more m =
-      played-here a (db.pending t) db.rows ∙ ap₂ first_or (s.pending t run) s.row
+      played_here a (db.pending t) db.rows ∙ ap₂ first_or (s.pending t run) s.row
       ∙ sym (won_row pos 0 (standing t vs) _ _ (won (λ u. counted q (ends u)) (λ u. counted q (more u)) t pos commits 0 vs s.rising))
     where
       same : (t == t) ≡ true
@@ -390,7 +390,7 @@ module _ (a : Place) (q : ℕ) (db : Database) (vs : List Version) (ends : ℕ �
   abort_row : (t : ℕ) → db.ended t ≡ false → (more : ℕ → Option End)
       → ((u : ℕ) → more u ≡ cond (u == t) (Some (record { pos = pos; scn = scn; committed = false })) (ends u))
       → db.rows a ≡ row_of (latest_by (λ u. counted q (more u)) vs)
-  abort_row t run more m = s.row ∙ ap row_of (latest_by-same (λ u. counted q (ends u)) (λ u. counted q (more u)) (λ u. same u (u == t) refl ∙ ap (counted q) (sym (m u))) vs)
+  abort_row t run more m = s.row ∙ ap row_of (latest_by_same (λ u. counted q (ends u)) (λ u. counted q (more u)) (λ u. same u (u == t) refl ∙ ap (counted q) (sym (m u))) vs)
     where
       same : (u : ℕ) (b : Bool) → (u == t) ≡ b → counted q (ends u) ≡ counted q (cond b (Some (record { pos = pos; scn = scn; committed = false })) (ends u))
       same u true h = ap (counted q) (ap ends (eqb-true u t h) ∙ not_ended a q db vs ends pos s t run)
@@ -427,15 +427,15 @@ earlier_assoc : (x y z : Option End) → earlier (earlier x y) z ≡ earlier x (
 earlier_assoc None y z = refl
 earlier_assoc (Some e) y z = refl
 
-pub ends_after-is : (ends : ℕ → Option End) (es : List LogEntry) (t : ℕ) → ends_after ends es t ≡ earlier (ends t) (end_of es t)
-ends_after-is ends [] t = sym (earlier_none (ends t))
-ends_after-is ends (e ∷ es) t =
-    ends_after-is (λ u. earlier (ends u) (end_by u e.pos e.scn e.vector)) es t ∙ earlier_assoc (ends t) (end_by t e.pos e.scn e.vector) (end_of es t)
+pub ends_after_is : (ends : ℕ → Option End) (es : List LogEntry) (t : ℕ) → ends_after ends es t ≡ earlier (ends t) (end_of es t)
+ends_after_is ends [] t = sym (earlier_none (ends t))
+ends_after_is ends (e ∷ es) t =
+    ends_after_is (λ u. earlier (ends u) (end_by u e.pos e.scn e.vector)) es t ∙ earlier_assoc (ends t) (end_by t e.pos e.scn e.vector) (end_of es t)
 
-pub end_of-append : (xs ys : List LogEntry) (t : ℕ) → end_of (xs ++ ys) t ≡ earlier (end_of xs t) (end_of ys t)
-end_of-append [] ys t = refl
-end_of-append (e ∷ xs) ys t =
-    ap (earlier (end_by t e.pos e.scn e.vector)) (end_of-append xs ys t) ∙ sym (earlier_assoc (end_by t e.pos e.scn e.vector) (end_of xs t) (end_of ys t))
+pub end_of_append : (xs ys : List LogEntry) (t : ℕ) → end_of (xs ++ ys) t ≡ earlier (end_of xs t) (end_of ys t)
+end_of_append [] ys t = refl
+end_of_append (e ∷ xs) ys t =
+    ap (earlier (end_by t e.pos e.scn e.vector)) (end_of_append xs ys t) ∙ sym (earlier_assoc (end_by t e.pos e.scn e.vector) (end_of xs t) (end_of ys t))
 
 -- positions that count up from one on
 abbrev pub Placed : ℕ → List LogEntry → Type 0
@@ -626,5 +626,5 @@ late_walk a q low high db ends (e ∷ es) sound h scns =
         late : (t : ℕ) → db.ended t ≡ false → is_late q (ends_after ends (e ∷ es) t) ≡ true
         late t r =
             let none : ends t ≡ None = none_of (ends t) (sym (h t) ∙ r) in
-            ap (is_late q) (ends_after-is ends (e ∷ es) t ∙ ap (λ x. earlier x (end_of (e ∷ es) t)) none)
+            ap (is_late q) (ends_after_is ends (e ∷ es) t ∙ ap (λ x. earlier x (end_of (e ∷ es) t)) none)
             ∙ end_of_above q t (e ∷ es) (k, all_above q e.scn high es scns.2 k)

@@ -1,8 +1,7 @@
 -- What a shard shows of what it keeps, and what its calls make of it.
 use Rattle.std.specs.Prelude.{◌≡◌, ℕ, Bool, ◌==◌, ◌&&◌, if◌then◌else◌, nat_eq, List, [], slice_index_or, Option, Some, None}
 use Rattle.std.specs.HashMap as hash
-use Rattle.adg_base.specs.Address.{Place}
-use Rattle.adg_model.specs.Database.{same_place}
+use Rattle.adg_base.specs.Address.{Place, same_place}
 use Rattle.row_blocks.specs.declared.version.Version.{Version}
 use Rattle.row_blocks.specs.declared.version.End.{End}
 use Rattle.row_blocks.specs.declared.shard.Shard.{Shard}

@@ -1,12 +1,11 @@
 -- The versions that a log makes at an address, and the end that it makes for a transaction.
 use Rattle.std.specs.Prelude.{ℕ, Bool, true, false, not, ◌==◌, nat_lt, ◌&&◌, if◌then◌else◌, List, [], ◌∷◌, ◌++◌, Option, Some, None}
 use Rattle.std.specs.List.{list_any}
-use Rattle.adg_base.specs.Address.{Place}
+use Rattle.adg_base.specs.Address.{Place, place, same_place}
 use Rattle.adg_base.specs.declared.value.Value.{Value}
 use Rattle.adg_base.specs.declared.vector.Vector.{Vector}
 use Rattle.adg_base.specs.declared.vector.Vector.TheVariants.{Begin, Put, Delete, Undo, Commit, Abort, Create, DropObject, AddColumn, NoInMemory, EndThread}
 use Rattle.adg_base.specs.declared.log.LogEntry.{LogEntry}
-use Rattle.adg_model.specs.Database.{place, same_place}
 use Rattle.row_blocks.specs.declared.version.Version.{Version}
 use Rattle.row_blocks.specs.declared.version.End.{End}
 

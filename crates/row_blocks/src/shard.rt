@@ -1,6 +1,6 @@
 ghost use Rattle.std.specs.Prelude.{◌≡◌, ℕ, ◌+◌, ◌<◌, ◌^◌, Ok, Some, false, nat_lt, if◌then◌else◌, IfOk, OnOk, OnErr, option_copied};
 ghost use Rattle.adg_base.specs.Shard.{shard_of_vector};
-ghost use Rattle.adg_model.specs.Database.{place};
+ghost use Rattle.adg_base.specs.Address.{place};
 ghost use Rattle.row_blocks.specs.Versions.{Makes, Strikes};
 ghost use Rattle.row_blocks.specs.Stands.{SameKept, StandsFromStart, StandsForMore, with_entry, after_entry, none_kept};
 ghost use Rattle.row_blocks.specs.Shard.{shown, DoesAt, EndsAt, at_slot};

@@ -1,7 +1,6 @@
 ghost use Rattle.std.specs.Prelude.{◌≡◌, ℕ, ◌+◌, ◌<◌, ◌^◌, ◌++◌, if◌then◌else◌, length, is_some, option_copied, option_to_list, IfOk, OnOk, OnErr};
 ghost use Rattle.std.specs.List.{filter_map};
-ghost use Rattle.adg_model.specs.Database.{place};
-ghost use Rattle.adg_model.specs.Query.{block_places};
+ghost use Rattle.adg_base.specs.Address.{place, block_places};
 ghost use Rattle.row_blocks.specs.Pick.{candidate, later, picked_by};
 ghost use Rattle.row_blocks.specs.Best.{shown};
 ghost use Rattle.row_blocks.specs.Shard.{at_slot};

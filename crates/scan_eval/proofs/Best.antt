@@ -9,9 +9,10 @@ use Rattle.std.proofs.lemmas.List.{append-nil}
 use Rattle.std.proofs.lemmas.List.Sorted.{ranks_by}
 use Rattle.adg_base.specs.declared.value.Value.{Value}
 use Rattle.adg_base.specs.declared.value.Value.TheVariants.{Null, Int, Text}
-use Rattle.adg_model.specs.Query.{value_cmp, is_null, chosen}
+use Rattle.adg_model.specs.Query.{chosen}
+use Rattle.adg_base.specs.Values.{value_cmp, is_null}
 use Rattle.scan_eval.specs.Tally.{best, is_lower, lesser, greater}
-use Rattle.scan_eval.proofs.ValueOrder.{value_cmp_total}
+use Rattle.adg_base.proofs.ValueOrder.{value_cmp_total}
 
 -- one step of a choice
 abbrev step : (Ordering → Bool) → Value → Value → Value
@@ -37,9 +38,9 @@ greatest_is_choice = record {
   chain = λ x y z e f. turned x z ∙ least_is_choice.chain z y x (sym (turned y z) ∙ f) (sym (turned x y) ∙ e);
 }
 
-chosen-append : (better : Ordering → Bool) (v : Value) (ws us : List Value) → chosen better v (ws ++ us) ≡ chosen better (chosen better v ws) us
-chosen-append better v [] us = refl
-chosen-append better v (w ∷ ws) us = chosen-append better (step better v w) ws us
+chosen_append : (better : Ordering → Bool) (v : Value) (ws us : List Value) → chosen better v (ws ++ us) ≡ chosen better (chosen better v ws) us
+chosen_append better v [] us = refl
+chosen_append better v (w ∷ ws) us = chosen_append better (step better v w) ws us
 
 step_assoc : (better : Ordering → Bool) → IsChoice better → (v w u : Value) → step better (step better v w) u ≡ step better v (step better w u)
 step_assoc better o v w u = by_first (better (value_cmp w v)) refl (better (value_cmp u w)) refl
@@ -73,7 +74,7 @@ chosen_step better o v w (u ∷ us) =
 
 -- of two lists that are not empty
 both_lists : (better : Ordering → Bool) → IsChoice better → (v : Value) (vs : List Value) (w : Value) (ws : List Value) → best better ((v ∷ vs) ++ (w ∷ ws)) ≡ step better (best better (v ∷ vs)) (best better (w ∷ ws))
-both_lists better o v vs w ws = chosen-append better v vs (w ∷ ws) ∙ chosen_step better o (chosen better v vs) w ws
+both_lists better o v vs w ws = chosen_append better v vs (w ∷ ws) ∙ chosen_step better o (chosen better v vs) w ws
 
 greater_of_null : (x : Value) → greater Null x ≡ x
 greater_of_null Null = refl
@@ -85,10 +86,10 @@ greater_with_null Null = refl
 greater_with_null (Int n) = refl
 greater_with_null (Text t) = refl
 
-pub greatest-append : (vs ws : List Value) → best is_gt (vs ++ ws) ≡ greater (best is_gt vs) (best is_gt ws)
-greatest-append [] ws = sym (greater_of_null (best is_gt ws))
-greatest-append (v ∷ vs) [] = ap (best is_gt) (append-nil (v ∷ vs)) ∙ sym (greater_with_null (best is_gt (v ∷ vs)))
-greatest-append (v ∷ vs) (w ∷ ws) = both_lists is_gt greatest_is_choice v vs w ws
+pub greatest_append : (vs ws : List Value) → best is_gt (vs ++ ws) ≡ greater (best is_gt vs) (best is_gt ws)
+greatest_append [] ws = sym (greater_of_null (best is_gt ws))
+greatest_append (v ∷ vs) [] = ap (best is_gt) (append-nil (v ∷ vs)) ∙ sym (greater_with_null (best is_gt (v ∷ vs)))
+greatest_append (v ∷ vs) (w ∷ ws) = both_lists is_gt greatest_is_choice v vs w ws
 
 -- values that are there
 abbrev pub AreThere : List Value → Type 0
@@ -110,9 +111,9 @@ lesser_of_null (Text t) = refl
 lesser_is_step : (v w : Value) → is_null v ≡ false → is_null w ≡ false → lesser v w ≡ step is_lt v w
 lesser_is_step v w e f = ap₂ (λ (a b : Bool). if not a && (b || is_lt (value_cmp w v)) then w else v) f e
 
-pub least-append : (vs ws : List Value) → AreThere vs → AreThere ws → best is_lt (vs ++ ws) ≡ lesser (best is_lt vs) (best is_lt ws)
-least-append [] ws a b = sym (lesser_of_null (best is_lt ws))
-least-append (v ∷ vs) [] a b = ap (best is_lt) (append-nil (v ∷ vs))
-least-append (v ∷ vs) (w ∷ ws) a b =
+pub least_append : (vs ws : List Value) → AreThere vs → AreThere ws → best is_lt (vs ++ ws) ≡ lesser (best is_lt vs) (best is_lt ws)
+least_append [] ws a b = sym (lesser_of_null (best is_lt ws))
+least_append (v ∷ vs) [] a b = ap (best is_lt) (append-nil (v ∷ vs))
+least_append (v ∷ vs) (w ∷ ws) a b =
     both_lists is_lt least_is_choice v vs w ws
     ∙ sym (lesser_is_step (best is_lt (v ∷ vs)) (best is_lt (w ∷ ws)) (chosen_is_there is_lt v vs a.0 a.1) (chosen_is_there is_lt w ws b.0 b.1))

@@ -14,10 +14,10 @@ use Rattle.adg_base.specs.declared.value.Value.{Value}
 use Rattle.adg_base.specs.declared.command.Aggregate.{Aggregate}
 use Rattle.adg_model.specs.Query.{value_in, rows_with}
 use Rattle.scan_eval.specs.declared.tally.Tally.{Tally}
-use Rattle.scan_eval.specs.Shown.{same}
+use Rattle.adg_base.specs.Values.{same}
 use Rattle.scan_eval.specs.Tally.{tally_of, tallies_of}
 use Rattle.scan_eval.specs.Groups.{keys_with}
-use Rattle.scan_eval.proofs.ValueOrder.{same_equiv, same_itself, same_is}
+use Rattle.adg_base.proofs.ValueOrder.{same_equiv, same_itself, same_is}
 use Rattle.scan_eval.proofs.Writes.{filter_fewer}
 use Rattle.scan_eval.proofs.Places.{front_of, middle_of, back_of, length_pieces, three_parts}
 
@@ -174,8 +174,8 @@ lines_apart aggregates c rows block k is (x ∷ xs) a =
     (ap (tallies_of aggregates) (filter-append (λ row. same (value_in c row) x) rows block ∙ ap (λ l. rows_with c x rows ++ l) (is.apart x a.0) ∙ append-nil (rows_with c x rows)))
     (lines_apart aggregates c rows block k is xs a.1)
 
-pub rows_with-block : (c : ℕ) (rows block : List Row) (k : Value) → IsBlock c k block → rows_with c k (rows ++ block) ≡ rows_with c k rows ++ block
-rows_with-block c rows block k is = filter-append (λ row. same (value_in c row) k) rows block ∙ ap (λ l. rows_with c k rows ++ l) is.own
+pub rows_with_block : (c : ℕ) (rows block : List Row) (k : Value) → IsBlock c k block → rows_with c k (rows ++ block) ≡ rows_with c k rows ++ block
+rows_with_block c rows block k is = filter-append (λ row. same (value_in c row) k) rows block ∙ ap (λ l. rows_with c k rows ++ l) is.own
 
 -- the part of a key among the tallies of keys
 pub record HasPart (aggregates : List Aggregate) (c : ℕ) (rows : List Row) (k : Value) (tallies : List Tally) (from to : ℕ) : Type 0 where
@@ -211,7 +211,7 @@ grown aggregates c rows block k keys place tallies ts is a tallied made =
     let wide = line_wide aggregates c rows in
     let three : tallies ≡ flat_map f a.front ++ f k ++ flat_map f a.back = tallied ∙ ap (flat_map f) a.is ∙ three_parts f a.front k a.back in
     let first : length (flat_map f a.front) ≡ n = length_pieces f w wide a.front ∙ ap (λ (m : ℕ). m * w) a.long in
-    let own : ts ≡ h k = made ∙ ap (tallies_of aggregates) (sym (rows_with-block c rows block k is)) in
+    let own : ts ≡ h k = made ∙ ap (tallies_of aggregates) (sym (rows_with_block c rows block k is)) in
     ap₂ (λ (x y : List Tally). x ++ ts ++ y)
     (ap (take n) three ∙ front_of n (flat_map f a.front) (f k) (flat_map f a.back) first ∙ sym (lines_apart aggregates c rows block k is a.front a.before))
     (ap (drop (n + w)) three ∙ back_of n w (flat_map f a.front) (f k) (flat_map f a.back) first (wide k) ∙ sym (lines_apart aggregates c rows block k is a.back a.behind))
@@ -262,9 +262,9 @@ apart_from : (k : Value) (xs : List Value) → AllByRecursion (λ y. same k y �
 apart_from k [] a = refl
 apart_from k (x ∷ xs) a = ap₂ (λ (b d : Bool). b || d) a.0 (apart_from k xs a.1)
 
-pub key_rows-with : (c : ℕ) (rows : List Row) (keys : List Value) (k : Value) → IsDistinct same keys → rows_with c k (key_rows c rows keys) ≡ cond (list_any (same k) keys) (rows_with c k rows) []
-key_rows-with c rows [] k d = refl
-key_rows-with c rows (x ∷ keys) k d = by_first (same k x) refl (key_rows-with c rows keys k (IsDistinct-tail same x keys d))
+pub key_rows_with : (c : ℕ) (rows : List Row) (keys : List Value) (k : Value) → IsDistinct same keys → rows_with c k (key_rows c rows keys) ≡ cond (list_any (same k) keys) (rows_with c k rows) []
+key_rows_with c rows [] k d = refl
+key_rows_with c rows (x ∷ keys) k d = by_first (same k x) refl (key_rows_with c rows keys k (IsDistinct-tail same x keys d))
   where
     by_first : (b : Bool) → same k x ≡ b → rows_with c k (key_rows c rows keys) ≡ cond (list_any (same k) keys) (rows_with c k rows) [] → rows_with c k (key_rows c rows (x ∷ keys)) ≡ cond (list_any (same k) (x ∷ keys)) (rows_with c k rows) []
     by_first true e ih =
@@ -289,12 +289,12 @@ distinct_front [] ys d = tt
 distinct_front (x ∷ xs) ys d = (front_apart x xs ys d.0, distinct_front xs ys d.1)
 
 -- the rows of the keys before one have no rows with it
-pub key_rows-before : (c : ℕ) (rows more : List Row) (keys : List Value) (place : ℕ) (d : Value) → IsDistinct same keys → place < length keys → rows_with c (get_or keys place d) (rows ++ key_rows c more (take place keys)) ≡ rows_with c (get_or keys place d) rows
-key_rows-before c rows more keys place d distinct within =
+pub key_rows_before : (c : ℕ) (rows more : List Row) (keys : List Value) (place : ℕ) (d : Value) → IsDistinct same keys → place < length keys → rows_with c (get_or keys place d) (rows ++ key_rows c more (take place keys)) ≡ rows_with c (get_or keys place d) rows
+key_rows_before c rows more keys place d distinct within =
     let k = get_or keys place d in
     let front = distinct_front (take place keys) (drop place keys) (subst (IsDistinct same) (sym (take-append-drop place keys)) distinct) in
     filter-append (λ row. same (value_in c row) k) rows (key_rows c more (take place keys))
-    ∙ ap (λ l. rows_with c k rows ++ l) (key_rows-with c more (take place keys) k front ∙ ap (λ (b : Bool). cond b (rows_with c k more) []) (apart_from k (take place keys) (front_of_around keys place d distinct within)))
+    ∙ ap (λ l. rows_with c k rows ++ l) (key_rows_with c more (take place keys) k front ∙ ap (λ (b : Bool). cond b (rows_with c k more) []) (apart_from k (take place keys) (front_of_around keys place d distinct within)))
     ∙ append-nil (rows_with c k rows)
   where
     front_of_around : (keys : List Value) (place : ℕ) (d : Value) → IsDistinct same keys → place < length keys → AllByRecursion (λ x. same (get_or keys place d) x ≡ false) (take place keys)
@@ -331,7 +331,7 @@ same_lines aggregates c rows others same_rows (k ∷ keys) =
 pub key_by_key : (c : ℕ) (rows more : List Row) (keys : List Value) → IsDistinct same keys → ((k : Value) → list_any (same k) keys ≡ list_any (has_key c k) more) → (k : Value) → rows_with c k (rows ++ key_rows c more keys) ≡ rows_with c k (rows ++ more)
 key_by_key c rows more keys d covered k =
     filter-append (λ row. same (value_in c row) k) rows (key_rows c more keys)
-    ∙ ap (λ l. rows_with c k rows ++ l) (key_rows-with c more keys k d ∙ by_any (list_any (same k) keys) refl)
+    ∙ ap (λ l. rows_with c k rows ++ l) (key_rows_with c more keys k d ∙ by_any (list_any (same k) keys) refl)
     ∙ sym (filter-append (λ row. same (value_in c row) k) rows more)
   where
     by_any : (b : Bool) → list_any (same k) keys ≡ b → cond (list_any (same k) keys) (rows_with c k more) [] ≡ rows_with c k more

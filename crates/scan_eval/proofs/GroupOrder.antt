@@ -13,15 +13,15 @@ use Rattle.adg_base.specs.declared.value.Value.{Value}
 use Rattle.adg_base.specs.declared.value.Value.TheVariants.{Null}
 use Rattle.adg_base.specs.declared.answer.Cell.{Cell}
 use Rattle.adg_base.specs.declared.command.Aggregate.{Aggregate}
-use Rattle.adg_model.specs.Query.{value_in, value_cmp, by_order, with_key, keys_of, rows_with, cell_of, aggregate_cells, group_lines}
+use Rattle.adg_model.specs.Query.{value_in, by_order, with_key, keys_of, rows_with, aggregate_cells, group_lines}
+use Rattle.adg_base.specs.Values.{value_cmp, cell_of, same}
 use Rattle.scan_eval.specs.declared.group.Groups.{Groups}
 use Rattle.scan_eval.specs.declared.group.KeyPlace.{KeyPlace}
 use Rattle.scan_eval.specs.declared.tally.Tally.{Tally}
-use Rattle.scan_eval.specs.Shown.{same}
 use Rattle.scan_eval.specs.Tally.{tally_cell}
 use Rattle.scan_eval.specs.Groups.{AreGroups, AreInOrder, places_from}
-use Rattle.scan_eval.proofs.ValueOrder.{value_cmp_total, same_equiv, same_itself, same_keys, tied, below_all}
-use Rattle.scan_eval.proofs.TallyLaws.{cells-of_rows}
+use Rattle.adg_base.proofs.ValueOrder.{value_cmp_total, same_equiv, same_itself, same_keys, tied, below_all}
+use Rattle.scan_eval.proofs.TallyLaws.{cells_of_rows}
 use Rattle.scan_eval.proofs.GroupLaws.{Row, has_key, line, around_index, has_part}
 
 abbrev IsAscending : List Value → Type 0
@@ -166,5 +166,5 @@ lines_in_order aggregates g places is order =
     by_lines [] all = refl
     by_lines (p ∷ ps) all =
         ap₂ (λ (h : List Cell) (t : List (List Cell)). h ∷ t)
-        (ap (λ (ts : List Tally). cell_of p.key ∷ map tally_cell ts) all.0.line ∙ ap (λ (l : List Cell). cell_of p.key ∷ l) (cells-of_rows aggregates (rows_with g.column p.key g.seen.rows)))
+        (ap (λ (ts : List Tally). cell_of p.key ∷ map tally_cell ts) all.0.line ∙ ap (λ (l : List Cell). cell_of p.key ∷ l) (cells_of_rows aggregates (rows_with g.column p.key g.seen.rows)))
         (by_lines ps all.1)

@@ -5,4 +5,3 @@ pub mod GroupOrder
 pub mod Places
 pub mod TallyLaws
 pub mod TextKeys
-pub mod ValueOrder

@@ -3,7 +3,8 @@ use Rattle.std.specs.Prelude.{◌≡◌, List, map, Option, Some, None}
 use Rattle.adg_base.specs.declared.value.Value.{Value}
 use Rattle.adg_base.specs.declared.command.Select.{Select}
 use Rattle.adg_base.specs.declared.command.What.TheVariants.{All, Aggregates}
-use Rattle.adg_model.specs.Query.{cell_of, aggregates_of}
+use Rattle.adg_model.specs.Query.{aggregates_of}
+use Rattle.adg_base.specs.Values.{cell_of}
 use Rattle.scan_eval.specs.Tally.{tallies_of}
 use Rattle.scan_eval.specs.Groups.{AreGroups}
 use Rattle.scan_eval.specs.declared.group.Groups.{Groups as GroupList}

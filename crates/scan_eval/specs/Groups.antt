@@ -4,8 +4,8 @@ use Rattle.std.specs.List.{flat_map, list_any, position, IsDistinct}
 use Rattle.std.specs.List.Sorted.{IsPermutation, IsSortedByKey}
 use Rattle.adg_base.specs.declared.value.Value.{Value}
 use Rattle.adg_base.specs.declared.command.Aggregate.{Aggregate}
-use Rattle.adg_model.specs.Query.{value_in, value_cmp, rows_with}
-use Rattle.scan_eval.specs.Shown.{same}
+use Rattle.adg_model.specs.Query.{value_in, rows_with}
+use Rattle.adg_base.specs.Values.{value_cmp, same}
 use Rattle.scan_eval.specs.Tally.{tallies_of}
 use Rattle.scan_eval.specs.KeyIndex.{place_at}
 use Rattle.scan_eval.specs.declared.group.Groups.{Groups}

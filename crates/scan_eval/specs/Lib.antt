@@ -3,6 +3,5 @@ pub mod Admission
 pub mod Gathered
 pub mod Groups
 pub mod KeyIndex
-pub mod Shown
 pub mod Summed
 pub mod Tally

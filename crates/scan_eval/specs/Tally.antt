@@ -8,7 +8,8 @@ use Rattle.adg_base.specs.declared.answer.Cell.{Cell}
 use Rattle.adg_base.specs.declared.answer.Cell.TheVariants as cell
 use Rattle.adg_base.specs.declared.command.Aggregate.{Aggregate}
 use Rattle.adg_base.specs.declared.command.Aggregate.TheVariants as aggregate
-use Rattle.adg_model.specs.Query.{value_in, values_in, value_cmp, chosen, is_null, cell_of}
+use Rattle.adg_model.specs.Query.{value_in, values_in, chosen}
+use Rattle.adg_base.specs.Values.{value_cmp, is_null, cell_of}
 use Rattle.scan_eval.specs.Summed.{Summed, summed, with_term, joined}
 use Rattle.scan_eval.specs.declared.tally.Tally.{Tally}
 use Rattle.scan_eval.specs.declared.tally.Tally.TheVariants.{Count, Sum, Least, Greatest}

@@ -1,7 +1,8 @@
 ghost use Rattle.std.specs.Prelude.{◌≡◌, ◌+◌, ◌<◌, ◌^◌, ◌++◌, ◌∷◌, [], length, map, IfOk, OnOk, OnErr};
 ghost use Rattle.adg_model.specs.Defined.{table_of};
 ghost use Rattle.adg_model.specs.Query as query;
-ghost use Rattle.adg_model.specs.Query.{cell_of, filtered, select_lines};
+ghost use Rattle.adg_model.specs.Query.{filtered, select_lines};
+ghost use Rattle.adg_base.specs.Values.{cell_of};
 ghost use Rattle.scan_eval.specs.Admission.{admission, Follows};
 ghost use Rattle.scan_eval.specs.Gathered.{Gathers};
 ghost use Rattle.scan_eval.specs.Tally.{tally_cell};
@@ -11,7 +12,7 @@ use crate::condition::meets_all;
 use crate::group::Groups;
 use crate::seen::Seen;
 use crate::tally::{Tally, add_cells, add_empty, add_row, join_all};
-use crate::value_ref::RowView;
+use adg_base::value_ref::RowView;
 use adg_base::answer::{Answer, CellList};
 use adg_base::command::{Aggregate, Select, What};
 use adg_base::definition::Definition;

@@ -3,12 +3,12 @@
 ghost use Rattle.std.specs.Prelude.{◌≡◌, ◌&&◌, not, ◌-◌};
 ghost use Rattle.std.specs.List.{list_all};
 ghost use Rattle.adg_model.specs.Query as query;
-ghost use Rattle.adg_model.specs.Query.{allows, is_null, value_cmp, value_in};
-ghost use Rattle.scan_eval.specs.Shown.{shown};
+ghost use Rattle.adg_model.specs.Query.{allows, value_in};
+ghost use Rattle.adg_base.specs.Values.{is_null, value_cmp, shown};
 
-use crate::value_ref::{RowView, ValueRef};
+use adg_base::value_ref::{RowView, ValueRef};
 use adg_base::command::{Condition, Op};
-use std::cmp::Ordering;
+use adg_model::comparison::is_allowed;
 
 /// Whether a row meets all conditions.
 pub fn meets_all<R: RowView>(row: &R, conditions: &[Condition]) -> bool
@@ -40,18 +40,5 @@ fn passes(value: ValueRef<'_>, op: Op, literal: ValueRef<'_>) -> bool
         (ValueRef::Int(_) | ValueRef::Text(_), ValueRef::Int(_) | ValueRef::Text(_)) => {
             is_allowed(op, value.compare(literal))
         }
-    }
-}
-
-fn is_allowed(op: Op, order: Ordering) -> bool
-    ensures { result ≡ allows op order }
-{
-    match op {
-        Op::Eq => order.is_eq(),
-        Op::Ne => !order.is_eq(),
-        Op::Lt => order.is_lt(),
-        Op::Le => !order.is_gt(),
-        Op::Gt => order.is_gt(),
-        Op::Ge => !order.is_lt(),
     }
 }

@@ -5,8 +5,9 @@ ghost use Rattle.std.specs.List.{list_any, position, slice_index_or};
 ghost use Rattle.adg_base.specs.declared.command.Aggregate.{Aggregate};
 ghost use Rattle.adg_base.specs.declared.value.Value.TheVariants.{Null};
 ghost use Rattle.adg_model.specs.Query as query;
-ghost use Rattle.adg_model.specs.Query.{cell_of, group_lines, rows_with};
-ghost use Rattle.scan_eval.specs.Shown.{shown, same};
+ghost use Rattle.adg_base.specs.Values as order;
+ghost use Rattle.adg_base.specs.Values.{cell_of, shown, same};
+ghost use Rattle.adg_model.specs.Query.{group_lines, rows_with};
 ghost use Rattle.scan_eval.specs.Tally.{tally_cell};
 ghost use Rattle.scan_eval.specs.Groups.{AreGroups, AreTallied, AreInOrder, keys_with};
 
@@ -14,7 +15,7 @@ use crate::condition::value_in;
 use crate::key_index::KeyIndex;
 use crate::seen::Seen;
 use crate::tally::{Tally, add_cells, add_empty, add_row_at, join_all_at, part};
-use crate::value_ref::{RowView, ValueRef};
+use adg_base::value_ref::{RowView, ValueRef};
 use adg_base::answer::{Answer, Cell, CellList};
 use adg_base::command::Aggregate;
 use adg_base::list::List;
@@ -212,7 +213,7 @@ fn in_order(alloc: Global, keys: Vec<Value>) -> Result<Vec<KeyPlace>, Memory>
 }
 
 fn by_key(a: &KeyPlace, b: &KeyPlace) -> Ordering
-    ensures { result ≡ query.value_cmp a.now.key b.now.key }
+    ensures { result ≡ order.value_cmp a.now.key b.now.key }
 {
     ValueRef::of(&a.key).compare(ValueRef::of(&b.key))
 }

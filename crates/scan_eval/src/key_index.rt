@@ -2,10 +2,10 @@
 
 ghost use Rattle.std.specs.Prelude.{◌≡◌, if◌then◌else◌, None, Some, OnOk};
 ghost use Rattle.adg_base.specs.declared.value.Value.{Value as Datum};
-ghost use Rattle.scan_eval.specs.Shown.{shown, same};
+ghost use Rattle.adg_base.specs.Values.{shown, same};
 ghost use Rattle.scan_eval.specs.KeyIndex.{place_at};
 
-use crate::value_ref::ValueRef;
+use adg_base::value_ref::ValueRef;
 use adg_base::memory::Memory;
 use std::alloc::Global;
 use std::collections::HashMap;

@@ -12,4 +12,3 @@ pub mod select;
 mod tally;
 #[cfg(test)]
 mod tests;
-pub mod value_ref;

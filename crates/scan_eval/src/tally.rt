@@ -2,13 +2,13 @@
 
 ghost use Rattle.std.specs.Prelude.{◌≡◌, ◌+◌, ◌-◌, ◌<◌, ◌≤◌, ◌^◌, ◌++◌, [], map, length, take, drop, IfOk, OnOk};
 ghost use Rattle.std.specs.List.{All, AllZip, zip};
-ghost use Rattle.scan_eval.specs.Shown.{shown};
+ghost use Rattle.adg_base.specs.Values.{shown};
 ghost use Rattle.scan_eval.specs.Summed.{summed, with_term, joined};
 ghost use Rattle.scan_eval.specs.Tally as tally;
 ghost use Rattle.scan_eval.specs.Tally.{tally_of, tallies_of, with_row, with_tally, size_of, sum_cell_of, tally_cell, lesser, greater};
 
 use crate::condition::value_in;
-use crate::value_ref::{RowView, ValueRef};
+use adg_base::value_ref::{RowView, ValueRef};
 use adg_base::answer::Cell;
 use adg_base::command::Aggregate;
 use adg_base::memory::Memory;

@@ -5,6 +5,7 @@ ghost use Rattle.std.specs.Prelude.{◌≡◌, [], ◌∷◌, ◌++◌, map, len
 ghost use Rattle.adg_base.specs.declared.value.Value.{Value as Datum};
 ghost use Rattle.adg_base.specs.declared.value.Value.TheVariants.{Null};
 ghost use Rattle.adg_model.specs.Query as query;
+ghost use Rattle.adg_base.specs.Values as order;
 ghost use Rattle.adg_model.specs.Query.{filtered, rows_with, group_lines, aggregate_cells};
 ghost use Rattle.adg_model.specs.Plain.{key_place, prefers};
 
@@ -57,7 +58,7 @@ pub fn result_lines(
 }
 
 fn row_lines(alloc: Global, rows: &[Row]) -> Result<Answer, Memory>
-    ensures { IfOk result (λ lines. lines ≡ map (map query.cell_of) rows.now) }
+    ensures { IfOk result (λ lines. lines ≡ map (map order.cell_of) rows.now) }
 {
     let mut lines = List::new(alloc);
     for row in rows {
@@ -67,7 +68,7 @@ fn row_lines(alloc: Global, rows: &[Row]) -> Result<Answer, Memory>
 }
 
 fn row_cells(alloc: Global, values: &[Value]) -> Result<CellList, Memory>
-    ensures { IfOk result (λ cells. cells ≡ map query.cell_of values.now) }
+    ensures { IfOk result (λ cells. cells ≡ map order.cell_of values.now) }
 {
     let mut cells = List::new(alloc);
     for value in values {
@@ -77,7 +78,7 @@ fn row_cells(alloc: Global, values: &[Value]) -> Result<CellList, Memory>
 }
 
 fn cell_of(alloc: Global, value: &Value) -> Result<Cell, Memory>
-    ensures { IfOk result (λ cell. cell ≡ query.cell_of value.now) }
+    ensures { IfOk result (λ cell. cell ≡ order.cell_of value.now) }
 {
     match value {
         Value::Null => Ok(Cell::Null),
@@ -186,7 +187,7 @@ fn number_of(value: &Value) -> i64
 
 /// Whether a value comes before another where this one is asked for.
 fn is_better(extreme: Extreme, value: &Value, best: &Value) -> bool
-    ensures { result ≡ prefers extreme (query.value_cmp value.now best.now) }
+    ensures { result ≡ prefers extreme (order.value_cmp value.now best.now) }
 {
     match extreme {
         Extreme::Least => compare(value, best).is_lt(),
@@ -295,7 +296,7 @@ fn line_of_group(
     key: &Value,
     rows: &[Row],
 ) -> Result<CellList, Memory>
-    ensures { IfOk result (λ line. line ≡ query.cell_of key.now ∷ aggregate_cells aggregates.now (rows_with column key.now rows.now)) }
+    ensures { IfOk result (λ line. line ≡ order.cell_of key.now ∷ aggregate_cells aggregates.now (rows_with column key.now rows.now)) }
 {
     let those = with_the_key(alloc, column, key, rows)?;
     let mut line = List::new(alloc);

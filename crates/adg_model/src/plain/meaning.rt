@@ -1,19 +1,24 @@
 //! The meaning of a SELECT over the changes that are committed, by the definitions one by one.
 
-ghost use Rattle.std.specs.Prelude.{◌≡◌, ◌++◌, ◌&&◌, [], ◌∷◌, map, length, nat_le, not, option_to_list, IfOk, OnOk};
+ghost use Rattle.std.specs.Prelude.{◌≡◌, ◌++◌, ◌&&◌, [], ◌∷◌, map, not, IfOk, OnOk};
 ghost use Rattle.std.specs.List.{filter_map, list_all};
-ghost use Rattle.adg_model.specs.Database.{place, played};
+ghost use Rattle.adg_model.specs.Database.{played};
+ghost use Rattle.adg_base.specs.Address.{place, block_places};
 ghost use Rattle.adg_model.specs.Query as query;
-ghost use Rattle.adg_model.specs.Query.{allows, block_places, columns_in, column_of, fits_column, padded, table_rows, value_cmp};
+ghost use Rattle.adg_base.specs.Values as order;
+ghost use Rattle.adg_base.specs.Values.{value_cmp};
+ghost use Rattle.adg_model.specs.Query.{allows, padded, table_rows};
 ghost use Rattle.adg_model.specs.Plain.{no_rows};
 
 use super::walk::{PlainChange, PlainTable, row_at};
-use adg_base::command::{Aggregate, Condition, Op, Select, What};
+use crate::admission::Columns;
+use crate::comparison::is_allowed;
+use adg_base::command::{Condition, Op};
 use adg_base::list::{Duplicate, List};
 use adg_base::memory::Memory;
 use adg_base::number::Obj;
 use adg_base::row::{Row, RowList};
-use adg_base::value::{ColKind, Value};
+use adg_base::value::Value;
 use std::alloc::Global;
 use std::cmp::Ordering;
 
@@ -110,31 +115,18 @@ fn meets(row: &[Value], condition: &Condition) -> bool
 }
 
 fn compares(value: &Value, op: Op, literal: &Value) -> bool
-    ensures { result ≡ (not (query.is_null value.now) && not (query.is_null literal.now) && allows op (value_cmp value.now literal.now)) }
+    ensures { result ≡ (not (order.is_null value.now) && not (order.is_null literal.now) && allows op (value_cmp value.now literal.now)) }
 {
     !is_null(value) && !is_null(literal) && is_allowed(op, compare(value, literal))
 }
 
 /// Whether there is no value.
 pub fn is_null(value: &Value) -> bool
-    ensures { result ≡ query.is_null value.now }
+    ensures { result ≡ order.is_null value.now }
 {
     match value {
         Value::Null => true,
         Value::Int(_) | Value::Text(_) => false,
-    }
-}
-
-fn is_allowed(op: Op, order: Ordering) -> bool
-    ensures { result ≡ allows op order }
-{
-    match op {
-        Op::Eq => order.is_eq(),
-        Op::Ne => !order.is_eq(),
-        Op::Lt => order.is_lt(),
-        Op::Le => !order.is_gt(),
-        Op::Gt => order.is_gt(),
-        Op::Ge => !order.is_lt(),
     }
 }
 
@@ -150,120 +142,5 @@ pub fn compare(left: &Value, right: &Value) -> Ordering
         (Value::Int(_), Value::Text(_)) => Ordering::Less,
         (Value::Text(_), Value::Int(_)) => Ordering::Greater,
         (Value::Text(left), Value::Text(right)) => left.as_bytes().cmp(right.as_bytes()),
-    }
-}
-
-/// Whether the columns that a SELECT names are columns of the object.
-pub fn has_columns(select: &Select, table: &PlainTable) -> bool
-    ensures { result ≡ query.has_columns select.now table.now }
-{
-    let width = table.kinds().len();
-    has_asked(&select.what, width)
-        && has_tested(select.conditions.as_slice(), width)
-        && has_group(select.group, width)
-}
-
-fn has_asked(what: &What, width: usize) -> bool
-    ensures { result ≡ list_all (λ c. nat_le c width) (columns_in what.now) }
-{
-    match what {
-        What::All => true,
-        What::Aggregates(aggregates) => have_columns(aggregates.as_slice(), width),
-    }
-}
-
-fn have_columns(aggregates: &[Aggregate], width: usize) -> bool
-    ensures { result ≡ list_all (λ a. list_all (λ c. nat_le c width) (option_to_list (column_of a))) aggregates.now }
-{
-    aggregates
-        .iter()
-        .all(|aggregate| has_column(*aggregate, width))
-}
-
-fn has_column(aggregate: Aggregate, width: usize) -> bool
-    ensures { result ≡ list_all (λ c. nat_le c width) (option_to_list (column_of aggregate)) }
-{
-    match aggregate {
-        Aggregate::Count => true,
-        Aggregate::Sum(column) | Aggregate::Min(column) | Aggregate::Max(column) => {
-            usize::from(column) <= width
-        }
-    }
-}
-
-fn has_tested(conditions: &[Condition], width: usize) -> bool
-    ensures { result ≡ list_all (λ c. nat_le c.column width) conditions.now }
-{
-    conditions
-        .iter()
-        .all(|condition| usize::from(condition.column) <= width)
-}
-
-fn has_group(group: Option<u8>, width: usize) -> bool
-    ensures { result ≡ list_all (λ c. nat_le c width) (option_to_list group) }
-{
-    match group {
-        Some(column) => usize::from(column) <= width,
-        None => true,
-    }
-}
-
-/// Whether each literal is of its column's kind, and each sum of a column of integers.
-pub fn has_types(select: &Select, table: &PlainTable) -> bool
-    ensures { result ≡ query.has_types select.now table.now }
-{
-    literals_fit(select.conditions.as_slice(), table) && sums_fit(&select.what, table)
-}
-
-fn literals_fit(conditions: &[Condition], table: &PlainTable) -> bool
-    ensures { result ≡ list_all (λ c. fits_column c.literal (query.kind_in c.column table.now)) conditions.now }
-{
-    conditions.iter().all(|condition| literal_fits(
-        &condition.literal,
-        kind_in(condition.column, table),
-    ))
-}
-
-fn literal_fits(literal: &Value, kind: Option<ColKind>) -> bool
-    ensures { result ≡ fits_column literal.now kind }
-{
-    match (literal, kind) {
-        (_, None) => false,
-        (Value::Null, Some(_)) => true,
-        (Value::Int(_), Some(ColKind::Int)) => true,
-        (Value::Int(_), Some(ColKind::Text)) => false,
-        (Value::Text(_), Some(ColKind::Int)) => false,
-        (Value::Text(_), Some(ColKind::Text)) => true,
-    }
-}
-
-fn kind_in(column: u8, table: &PlainTable) -> Option<ColKind>
-    ensures { result ≡ query.kind_in column table.now }
-{
-    let index = usize::from(column).saturating_sub(1);
-    table.kinds().as_slice().get(index).copied()
-}
-
-fn sums_fit(what: &What, table: &PlainTable) -> bool
-    ensures { result ≡ list_all (query.sums_integers table.now) (query.aggregates_of what.now) }
-{
-    match what {
-        What::All => true,
-        What::Aggregates(aggregates) => aggregates
-            .as_slice()
-            .iter()
-            .all(|aggregate| sum_fits(*aggregate, table)),
-    }
-}
-
-fn sum_fits(aggregate: Aggregate, table: &PlainTable) -> bool
-    ensures { result ≡ query.sums_integers table.now aggregate }
-{
-    match aggregate {
-        Aggregate::Count | Aggregate::Min(_) | Aggregate::Max(_) => true,
-        Aggregate::Sum(column) => match kind_in(column, table) {
-            Some(ColKind::Int) => true,
-            Some(ColKind::Text) | None => false,
-        },
     }
 }

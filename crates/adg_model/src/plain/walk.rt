@@ -3,15 +3,17 @@
 ghost use Rattle.std.specs.Prelude.{◌≡◌, ◌∷◌, IfOk, OnOk, option_copied};
 ghost use Rattle.std.specs.List.{position};
 ghost use Rattle.adg_model.specs.Log.{upto};
-ghost use Rattle.adg_model.specs.Database.{Database, after, database, place, played, same_place, struck};
+ghost use Rattle.adg_model.specs.Database.{Database, after, database, played, struck};
+ghost use Rattle.adg_base.specs.Address.{place, same_place};
 ghost use Rattle.adg_model.specs.Plain.{no_rows};
 
+use crate::admission::Columns;
 use adg_base::list::{Duplicate, List};
 use adg_base::log::{EntryList, LogEntry};
 use adg_base::memory::Memory;
 use adg_base::number::{Obj, Scn, Txn};
 use adg_base::row::Row;
-use adg_base::value::KindList;
+use adg_base::value::{ColKind, KindList};
 use adg_base::vector::Vector;
 use std::alloc::Global;
 use std::marker::Model;
@@ -63,12 +65,13 @@ impl PlainTable {
     {
         self.flag
     }
+}
 
-    /// The kinds of its columns.
-    pub fn kinds(&self) -> &KindList
-        ensures { result.now ≡ self.now.kinds }
-    {
-        &self.kinds
+impl Columns for PlainTable {
+    ghost table = { λ t. t };
+
+    fn kinds(&self) -> &[ColKind] {
+        self.kinds.as_slice()
     }
 }
 

@@ -1,7 +1,7 @@
 use Rattle.std.proofs.Common.{◌∙◌}
 use Rattle.feed_run.specs.View.{sink_view}
-use Rattle.feed_run.proofs.HeadlineLaws.{ended-feed}
+use Rattle.feed_run.proofs.HeadlineLaws.{ended_feed}
 use Rattle.feed_run.proofs.telling.refuse_feed.Goals as goal
 
 pub returns-in-Ok : goal.returns-in-Ok
-returns-in-Ok g c = ended-feed c.args.fault.kind c.args.fault.byte (sink_view (g.K.Sink.held c.args.sink.now) (g.K.Sink.faults c.args.sink.now)) (sink_view (g.K.Sink.held c.tell.new.sink) (g.K.Sink.faults c.tell.new.sink)) _ _ _ _ c.in_default.not-Read c.in_default.not-Memory (c.as_str.ensures.value ∙ c.in-Ok.ensures) c.tell.ensures
+returns-in-Ok g c = ended_feed c.args.fault.kind c.args.fault.byte (sink_view (g.K.Sink.held c.args.sink.now) (g.K.Sink.faults c.args.sink.now)) (sink_view (g.K.Sink.held c.tell.new.sink) (g.K.Sink.faults c.tell.new.sink)) _ _ _ _ c.in_default.not-Read c.in_default.not-Memory (c.as_str.ensures.value ∙ c.in-Ok.ensures) c.tell.ensures

@@ -1,4 +1,4 @@
-use Rattle.imadg_top.proofs.AnsweredLaws.{answers-one}
+use Rattle.imadg_top.proofs.AnsweredLaws.{answers_one}
 use Rattle.imadg_top.proofs.reply.answer_one.Goals as goal
 
 pub returns-in_default-clause-not_built : goal.returns-in_default-clause-not_built
@@ -11,5 +11,5 @@ returns-clause-ok c db shows =
     let at = c.args.at in
     let found = rw c.in-Some.is at c.in_ok-obj.ensures in
     let counts = rw c.as_slice.ensures at found in
-    answers-one db at.delivery c.args.scn at.session at.number c.args.command.now.text _ _ c.in-Some.obj c.count.result counts (c.count.ensures db shows)
+    answers_one db at.delivery c.args.scn at.session at.number c.args.command.now.text _ _ c.in-Some.obj c.count.result counts (c.count.ensures db shows)
     c.in_ok-push_count.ensures.ok

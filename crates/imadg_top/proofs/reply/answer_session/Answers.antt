@@ -3,7 +3,7 @@ use Rattle.std.proofs.lemmas.Result.{err_from_is_err_and}
 use Rattle.std.proofs.lemmas.List.Elements.{Contains-get_or}
 use Rattle.adg_model.specs.Transcript.{texts_of}
 use Rattle.imadg_top.specs.Answered.{AnswersAll}
-use Rattle.imadg_top.proofs.AnsweredLaws.{answers-join, asked-own, texts-other, count-own}
+use Rattle.imadg_top.proofs.AnsweredLaws.{answers_join, asked_own, texts_other, count_own}
 use Rattle.imadg_top.proofs.reply.answer_session.Goals as goal
 use Rattle.imadg_top.proofs.reply.answer_session.Goals.{then-command-first+in_ok-answer_one, else-command-first}
 
@@ -27,18 +27,18 @@ loop-command-preserved c =
     let inv = c.loop-command.invariant in
     elim c.if-command-first.branch [
       | then-command-first+in_ok-answer_one w ↦ record {
-        number = w.answered-is ∙ ap (λ (k : ℕ). k + 1) inv.number ∙ sym (count-own s cs i item c.loop-command-test.true c.command-item.is w.if-command-first.true);
+        number = w.answered-is ∙ ap (λ (k : ℕ). k + 1) inv.number ∙ sym (count_own s cs i item c.loop-command-test.true c.command-item.is w.if-command-first.true);
         within = omega arith;
         lines = λ db shows.
             let one = w.in_ok-answer_one.ensures.ok db shows in
             let at : c.loop-command.answered + 1 ≡ 1 + length (texts_of s (take i cs)) = omega (arith, inv.number) in
             let own = subst (λ (k : ℕ). AnswersAll db c.args.first.delivery c.args.scn (record { session = s; number = k; text = item.text } ∷ []) (string_bytes c.loop-command.text) (string_bytes w.answer_one.new.text)) at one in
-            rw (asked-own s cs i item c.loop-command-test.true c.command-item.is w.if-command-first.true, w.text-is)
-            (answers-join db c.args.first.delivery c.args.scn _ _ _ _ _ (inv.lines db shows) own);
+            rw (asked_own s cs i item c.loop-command-test.true c.command-item.is w.if-command-first.true, w.text-is)
+            (answers_join db c.args.first.delivery c.args.scn _ _ _ _ _ (inv.lines db shows) own);
       }
       | else-command-first w ↦ record {
-        number = w.answered-is ∙ inv.number ∙ ap (λ (t : List (List ℕ)). length t) (sym (texts-other s cs i item c.loop-command-test.true c.command-item.is w.if-command-first.false));
+        number = w.answered-is ∙ inv.number ∙ ap (λ (t : List (List ℕ)). length t) (sym (texts_other s cs i item c.loop-command-test.true c.command-item.is w.if-command-first.false));
         within = omega arith;
-        lines = λ db shows. rw (texts-other s cs i item c.loop-command-test.true c.command-item.is w.if-command-first.false, w.text-is) (inv.lines db shows);
+        lines = λ db shows. rw (texts_other s cs i item c.loop-command-test.true c.command-item.is w.if-command-first.false, w.text-is) (inv.lines db shows);
       }
     ]

@@ -4,7 +4,7 @@ use Rattle.std.specs.HashSet as bag
 use Rattle.adg_base.specs.Address.{Place}
 use Rattle.imadg_top.specs.declared.store.Object.{Object}
 use Rattle.imadg_top.specs.Store.{same_slot}
-use Rattle.imadg_top.proofs.StoreRows.{AddsRows-one}
+use Rattle.imadg_top.proofs.StoreRows.{AddsRows_one}
 use Rattle.imadg_top.proofs.store.add_row.Goals as goal
 
 pub returns-in_ok-insert : goal.returns-in_ok-insert
@@ -23,4 +23,4 @@ returns-in_ok-insert c =
     λ q. c.in_ok-insert.ensures.updates.0 q
     ∙ ap (λ (b : ℕ). cond (nat_eq b q.0 && nat_eq c.slot.result q.1) true (bag.contains same_slot old.rows q)) c.block.ensures
     ∙ ap (λ (s : ℕ). cond (nat_eq a.block q.0 && nat_eq s q.1) true (bag.contains same_slot old.rows q)) c.slot.ensures.value in
-    AddsRows-one from to a old new found updates refl adds
+    AddsRows_one from to a old new found updates refl adds

@@ -1,6 +1,6 @@
 use Rattle.std.proofs.Common.{◌++◌, ◌∙◌}
 use Rattle.std.proofs.lemmas.Result.{err_from_is_err_and}
-use Rattle.imadg_top.proofs.ThreadLaws.{one-taken, next-taken, bad-taken}
+use Rattle.imadg_top.proofs.ThreadLaws.{one_taken, next_taken, bad_taken}
 use Rattle.imadg_top.proofs.thread.take_records.Goals as goal
 
 pub returns-in_err-read_record-clause-bad : goal.returns-in_err-read_record-clause-bad
@@ -10,7 +10,7 @@ returns-in_err-read_record-clause-bad c fault e text records h =
     let bad = c.in_err-read_record.ensures.bad fault (cc (p.1, q, e)) in
     let before = c.loop-raw.invariant.taken text records h in
     let now = c.in-Some.ensures.holds text _ before.holds in
-    bad-taken c.loop-raw.assembler c.take.new.self text (records ++ c.loop-raw.records) c.in-Some.raw fault before.holds now before.readable c.in-Some.ensures.record.1 bad
+    bad_taken c.loop-raw.assembler c.take.new.self text (records ++ c.loop-raw.records) c.in-Some.raw fault before.holds now before.readable c.in-Some.ensures.record.1 bad
 
 pub loop-raw-preserved : goal.loop-raw-preserved
 loop-raw-preserved c = record {
@@ -19,6 +19,6 @@ loop-raw-preserved c = record {
       let now = c.in-Some.ensures.holds text _ before.holds in
       let read = c.in_ok-read_record.ensures.ok in
       rw c.in_ok-push.ensures.ok
-      (one-taken c.take.new.self text records c.loop-raw.records c.in_ok-read_record.field-0 _ now read.0 before.readable read.1);
-  number = next-taken c.loop-raw.assembler c.take.new.self _ c.in-Some.ensures.record.0 c.in-Some.ensures.rest ∙ c.loop-raw.invariant.number;
+      (one_taken c.take.new.self text records c.loop-raw.records c.in_ok-read_record.field-0 _ now read.0 before.readable read.1);
+  number = next_taken c.loop-raw.assembler c.take.new.self _ c.in-Some.ensures.record.0 c.in-Some.ensures.rest ∙ c.loop-raw.invariant.number;
 }

@@ -1,5 +1,5 @@
-use Rattle.log_merger.proofs.OneOrder.{order-is-one}
+use Rattle.log_merger.proofs.OneOrder.{order_is_one}
 use Rattle.log_merger.proofs.law.order_is_one.Goals as goal
 
 pub returns : goal.returns
-returns c = order-is-one
+returns c = order_is_one

@@ -4,7 +4,7 @@ use Rattle.std.proofs.lemmas.List.{length_push}
 use Rattle.adg_base.specs.declared.vector.Vector.{Vector}
 use Rattle.adg_base.specs.declared.log.LogEntry.{LogEntry}
 use Rattle.adg_model.specs.Log.{record_entries}
-use Rattle.log_merger.proofs.ThreadLaws.{record_entries-push}
+use Rattle.log_merger.proofs.ThreadLaws.{record_entries_push}
 use Rattle.log_merger.proofs.thread.push_entries.Goals as goal
 
 pub loop-vector-preserved : goal.loop-vector-preserved
@@ -21,5 +21,5 @@ loop-vector-preserved c =
       split = append_assoc y (v ∷ []) (into_iter_items c.next.new.self) ∙ ap (λ (t : List Vector). y ++ t) (sym c.in-Some.ensures.steps.0) ∙ inv.split;
       index = omega (arith, length_push y v, inv.index);
       room = omega (arith, inv.room, one, c.push_back_reserved.ensures.len, c.push_back_reserved.ensures.capacity);
-      entries = c.push_back_reserved.ensures.items ∙ ap₂ (λ (l : List LogEntry) (e : LogEntry). l ++ e ∷ []) inv.entries same ∙ append_assoc c.args.waiting.now.items front (entry 0 (1 + length y) ∷ []) ∙ ap (λ (l : List LogEntry). c.args.waiting.now.items ++ l) (sym (record_entries-push c.args.thread c.args.number c.args.scn 1 y v));
+      entries = c.push_back_reserved.ensures.items ∙ ap₂ (λ (l : List LogEntry) (e : LogEntry). l ++ e ∷ []) inv.entries same ∙ append_assoc c.args.waiting.now.items front (entry 0 (1 + length y) ∷ []) ∙ ap (λ (l : List LogEntry). c.args.waiting.now.items ++ l) (sym (record_entries_push c.args.thread c.args.number c.args.scn 1 y v));
     }

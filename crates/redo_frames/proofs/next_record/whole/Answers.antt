@@ -1,7 +1,7 @@
 use Rattle.std.proofs.Common.{◌≤◌, ◌<◌, ◌^◌, ap, arith, refl}
 use Rattle.adg_model.specs.Records.{Mark, stated_scn}
 use Rattle.adg_model.proofs.RecordsFault.{fault_whole, whole_range, whole_order}
-use Rattle.redo_frames.proofs.NextRecordLaws.{PassesChecks, Begins-where_checked}
+use Rattle.redo_frames.proofs.NextRecordLaws.{PassesChecks, Begins_where_checked}
 use Rattle.redo_frames.proofs.next_record.whole.Goals as goal
 
 pub returns-in_default : goal.returns-in_default
@@ -27,4 +27,4 @@ returns c =
       to = omega (arith, c.in-Some.ensures.range.0 refl);
       rises = omega (arith, same);
     } in
-    (Begins-where_checked c.args.mark c.args.bytes.now (λ i. omega (arith, c.type_inv.bytes i)) passes, c.requires.stated, grind arith)
+    (Begins_where_checked c.args.mark c.args.bytes.now (λ i. omega (arith, c.type_inv.bytes i)) passes, c.requires.stated, grind arith)

@@ -2,7 +2,7 @@ use Rattle.std.proofs.Common.{◌≡◌, ℕ, List, [], ◌∷◌, ◌++◌, map
 use Rattle.std.proofs.lemmas.Option.{unwrap_or-slice_get}
 use Rattle.adg_base.specs.declared.answer.Cell.{Cell}
 use Rattle.adg_base.specs.declared.value.Value.TheVariants.{Null}
-use Rattle.adg_model.specs.Query.{cell_of}
+use Rattle.adg_base.specs.Values.{cell_of}
 use Rattle.adg_model.proofs.PlainLines.{map_take_more}
 use Rattle.scan_eval.proofs.accumulator.add_line.Goals as goal
 

@@ -6,12 +6,12 @@ use Rattle.std.specs.Vec.Iter.{into_iter_items}
 use Rattle.std.proofs.lemmas.List.{append-nil, nil_from_length}
 use Rattle.std.proofs.lemmas.List.Sorted.{ranks_by, answers_always}
 use Rattle.adg_base.specs.declared.value.Value.{Value}
-use Rattle.adg_model.specs.Query.{value_cmp}
+use Rattle.adg_base.specs.Values.{value_cmp}
 use Rattle.scan_eval.specs.declared.group.KeyPlace.{KeyPlace}
 use Rattle.scan_eval.specs.Groups.{places_from}
 use Rattle.scan_eval.proofs.GroupOrder.{length_places}
 use Rattle.scan_eval.proofs.Writes.{taken_front}
-use Rattle.scan_eval.proofs.ValueOrder.{value_cmp_total}
+use Rattle.adg_base.proofs.ValueOrder.{value_cmp_total}
 use Rattle.scan_eval.proofs.group.in_order.Goals as goal
 
 places_push : (n : ℕ) (keys : List Value) (k : Value) → places_from n (keys ++ k ∷ []) ≡ places_from n keys ++ record { key = k; place = n + length keys } ∷ []

@@ -1,7 +1,8 @@
 use Rattle.std.proofs.Common.{[], ◌∷◌, ◌++◌, List, sym, ap, ap₂, ◌∙◌}
 use Rattle.adg_base.specs.declared.value.Value.{Value}
 use Rattle.adg_base.specs.declared.answer.Cell.{Cell}
-use Rattle.adg_model.specs.Query.{cell_of, aggregate_cells, rows_with}
+use Rattle.adg_model.specs.Query.{aggregate_cells, rows_with}
+use Rattle.adg_base.specs.Values.{cell_of}
 use Rattle.adg_model.proofs.PlainLines.{map_take_more}
 use Rattle.adg_model.proofs.plain.lines.lines_of_groups.Goals as goal
 

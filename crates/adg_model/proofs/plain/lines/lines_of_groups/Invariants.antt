@@ -1,5 +1,6 @@
 use Rattle.std.proofs.Common.{◌≡◌, ◌∷◌, map, take}
-use Rattle.adg_model.specs.Query.{cell_of, aggregate_cells, rows_with}
+use Rattle.adg_model.specs.Query.{aggregate_cells, rows_with}
+use Rattle.adg_base.specs.Values.{cell_of}
 use Rattle.adg_model.proofs.plain.lines.lines_of_groups.Given as goal
 
 abbrev pub invariant-loop-key : goal.invariant-loop-key

@@ -1,7 +1,8 @@
 use Rattle.std.proofs.Common.{◌≡◌, ℕ, List, [], ◌∷◌, ◌++◌, map, sym, ap, ◌∙◌, arith, append-nil}
 use Rattle.std.specs.List.{filter_map, range_with_len}
 use Rattle.adg_base.specs.declared.value.Value.{Value}
-use Rattle.adg_model.specs.Database.{place, played}
+use Rattle.adg_model.specs.Database.{played}
+use Rattle.adg_base.specs.Address.{place}
 use Rattle.adg_model.specs.Query.{padded}
 use Rattle.adg_model.specs.Plain.{no_rows}
 use Rattle.adg_model.proofs.PlainMeaning.{slot_more}

@@ -1,6 +1,7 @@
 use Rattle.std.proofs.Common.{◌≡◌, ◌++◌, map}
 use Rattle.std.specs.List.{filter_map, range_with_len}
-use Rattle.adg_model.specs.Database.{place, played}
+use Rattle.adg_model.specs.Database.{played}
+use Rattle.adg_base.specs.Address.{place}
 use Rattle.adg_model.specs.Query.{padded}
 use Rattle.adg_model.specs.Plain.{no_rows}
 use Rattle.adg_model.proofs.plain.meaning.add_rows.Given as goal

@@ -1,7 +1,8 @@
 use Rattle.std.proofs.Common.{◌≡◌, map}
 use Rattle.std.specs.List.{filter_map, flat_map, range_with_len}
 use Rattle.adg_model.specs.Database.{played}
-use Rattle.adg_model.specs.Query.{padded, block_places}
+use Rattle.adg_model.specs.Query.{padded}
+use Rattle.adg_base.specs.Address.{block_places}
 use Rattle.adg_model.specs.Plain.{no_rows}
 use Rattle.adg_model.proofs.plain.meaning.rows_of.Given as goal
 

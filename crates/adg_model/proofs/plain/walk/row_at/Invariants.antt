@@ -1,5 +1,6 @@
 use Rattle.std.proofs.Common.{◌≡◌, drop}
-use Rattle.adg_model.specs.Database.{place, played}
+use Rattle.adg_model.specs.Database.{played}
+use Rattle.adg_base.specs.Address.{place}
 use Rattle.adg_model.specs.Plain.{no_rows}
 use Rattle.adg_model.proofs.plain.walk.row_at.Given as goal
 

@@ -1,6 +1,7 @@
 use Rattle.std.proofs.Common.{List, sym, ap, ◌∙◌}
 use Rattle.std.specs.List.{position}
-use Rattle.adg_model.specs.Database.{Change, place, same_place}
+use Rattle.adg_model.specs.Database.{Change}
+use Rattle.adg_base.specs.Address.{place, same_place}
 use Rattle.adg_model.proofs.PlainWalk.{removed, struck_removed}
 use Rattle.adg_model.proofs.plain.walk.strike.Goals as goal
 

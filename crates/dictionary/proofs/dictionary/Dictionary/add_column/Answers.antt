@@ -5,7 +5,7 @@ use Rattle.adg_model.specs.Sound.{demand}
 use Rattle.adg_model.specs.declared.fault.CheckKind.TheVariants.{BadRow}
 use Rattle.dictionary.specs.Standing.{Known, StandsFor}
 use Rattle.dictionary.specs.Objects.{AddsStep}
-use Rattle.dictionary.proofs.Follows.{takes_up-change, found, IsFound, passes-on_table}
+use Rattle.dictionary.proofs.Follows.{takes_up_change, found, IsFound, passes_on_table}
 use Rattle.dictionary.proofs.dictionary.Dictionary.add_column.Goals as goal
 
 pub returns-clause-accepted : goal.returns-clause-accepted
@@ -20,5 +20,5 @@ returns-clause-accepted c log e s f at is =
     let adds : AddsStep old.objects new.objects c.args.obj (record { scn = e.scn; definition = made }) =
     subst (λ (n : ℕ). AddsStep old.objects new.objects c.args.obj (record { scn = n; definition = made })) (sym at) (c.in_ok-change.ensures.ok there.known) in
     let wider = c.in-Some-with_column.ensures c.args.obj there.table there.defined in
-    let passes = passes-on_table db c.args.obj there.table (λ table. demand (nat_lt (length table.kinds) 16) BadRow None) there.there ∙ ap (λ (b : Bool). demand b BadRow None) wider.0 in
-    takes_up-change old new log e _ t f is passes c.args.obj (with_column (Some there.table) c.args.kind) made (ap (λ (o : Option Table). set_at c.args.obj (with_column o c.args.kind) db.tables) there.there) refl refl t.transactions adds wider.1 there.created
+    let passes = passes_on_table db c.args.obj there.table (λ table. demand (nat_lt (length table.kinds) 16) BadRow None) there.there ∙ ap (λ (b : Bool). demand b BadRow None) wider.0 in
+    takes_up_change old new log e _ t f is passes c.args.obj (with_column (Some there.table) c.args.kind) made (ap (λ (o : Option Table). set_at c.args.obj (with_column o c.args.kind) db.tables) there.there) refl refl t.transactions adds wider.1 there.created

@@ -4,7 +4,7 @@ use Rattle.adg_model.specs.Database.{database}
 use Rattle.adg_model.specs.Spelling.{IsVector}
 use Rattle.dictionary.specs.Standing.{Known, StandsFor}
 use Rattle.dictionary.specs.Objects.{AddsStep}
-use Rattle.dictionary.proofs.Follows.{takes_up-create, none_from}
+use Rattle.dictionary.proofs.Follows.{takes_up_create, none_from}
 use Rattle.dictionary.proofs.dictionary.Dictionary.create.Goals as goal
 
 pub returns-clause-accepted : goal.returns-clause-accepted
@@ -19,4 +19,4 @@ returns-clause-accepted c log e s f at is =
     let spelled = subst (λ (v : Vector). IsVector 1 v) is f.spelled in
     let adds : AddsStep old.objects new.objects c.args.obj (record { scn = e.scn; definition = Some definition }) =
     subst (λ (n : ℕ). AddsStep old.objects new.objects c.args.obj (record { scn = n; definition = Some definition })) (sym at) (c.in_ok-create.ensures.ok (none_from _ absent)) in
-    takes_up-create old new log e _ t f is (rw fresh refl) c.args.obj c.args.extents c.args.flag c.args.columns.now definition refl refl adds (c.definition_of-definition.ensures spelled.few_columns)
+    takes_up_create old new log e _ t f is (rw fresh refl) c.args.obj c.args.extents c.args.flag c.args.columns.now definition refl refl adds (c.definition_of-definition.ensures spelled.few_columns)

@@ -3,7 +3,7 @@ use Rattle.adg_base.specs.declared.definition.Definition.{Definition}
 use Rattle.adg_model.specs.Database.{database}
 use Rattle.dictionary.specs.Standing.{Known, StandsFor}
 use Rattle.dictionary.specs.Objects.{AddsStep}
-use Rattle.dictionary.proofs.Follows.{takes_up-change, found, IsFound, passes-on_table}
+use Rattle.dictionary.proofs.Follows.{takes_up_change, found, IsFound, passes_on_table}
 use Rattle.dictionary.proofs.dictionary.Dictionary.drop_object.Goals as goal
 
 pub returns-clause-accepted : goal.returns-clause-accepted
@@ -17,4 +17,4 @@ returns-clause-accepted c log e s f at is =
     let made : Option Definition = None in
     let adds : AddsStep old.objects new.objects c.args.obj (record { scn = e.scn; definition = made }) =
     subst (λ (n : ℕ). AddsStep old.objects new.objects c.args.obj (record { scn = n; definition = made })) (sym at) (c.in_ok-change.ensures.ok there.known) in
-    takes_up-change old new log e _ t f is (passes-on_table db c.args.obj there.table (λ table. None) there.there) c.args.obj None made refl refl refl t.transactions adds tt there.created
+    takes_up_change old new log e _ t f is (passes_on_table db c.args.obj there.table (λ table. None) there.there) c.args.obj None made refl refl refl t.transactions adds tt there.created

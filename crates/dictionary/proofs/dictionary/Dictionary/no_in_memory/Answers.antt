@@ -3,7 +3,7 @@ use Rattle.adg_base.specs.declared.definition.Definition.{Definition}
 use Rattle.adg_model.specs.Database.{Table, database, set_at, without_flag}
 use Rattle.dictionary.specs.Standing.{Known, StandsFor}
 use Rattle.dictionary.specs.Objects.{AddsStep}
-use Rattle.dictionary.proofs.Follows.{takes_up-change, found, IsFound, passes-on_table}
+use Rattle.dictionary.proofs.Follows.{takes_up_change, found, IsFound, passes_on_table}
 use Rattle.dictionary.proofs.dictionary.Dictionary.no_in_memory.Goals as goal
 
 pub returns-clause-accepted : goal.returns-clause-accepted
@@ -18,4 +18,4 @@ returns-clause-accepted c log e s f at is =
     let adds : AddsStep old.objects new.objects c.args.obj (record { scn = e.scn; definition = made }) =
     subst (λ (n : ℕ). AddsStep old.objects new.objects c.args.obj (record { scn = n; definition = made })) (sym at) (c.in_ok-change.ensures.ok there.known) in
     let plain = c.without_flag-plain.ensures c.args.obj there.table there.defined in
-    takes_up-change old new log e _ t f is (passes-on_table db c.args.obj there.table (λ table. None) there.there) c.args.obj (without_flag (Some there.table)) made (ap (λ (o : Option Table). set_at c.args.obj (without_flag o) db.tables) there.there) refl refl t.transactions adds plain there.created
+    takes_up_change old new log e _ t f is (passes_on_table db c.args.obj there.table (λ table. None) there.there) c.args.obj (without_flag (Some there.table)) made (ap (λ (o : Option Table). set_at c.args.obj (without_flag o) db.tables) there.there) refl refl t.transactions adds plain there.created

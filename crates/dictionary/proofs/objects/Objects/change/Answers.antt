@@ -3,7 +3,7 @@ use Rattle.std.specs.Map.{lookup}
 use Rattle.std.proofs.lemmas.Bool.{false≢true}
 use Rattle.std.proofs.lemmas.Map.Steps.{set_value_same}
 use Rattle.dictionary.specs.declared.history.Step.{Step}
-use Rattle.dictionary.proofs.Catalogs.{adds_step, on_ok-weaker, on_err-weaker, on_err-ok}
+use Rattle.dictionary.proofs.Catalogs.{adds_step, on_ok_weaker, on_err_weaker, on_err_ok}
 use Rattle.dictionary.proofs.objects.Objects.change.Goals as goal
 use Rattle.dictionary.proofs.objects.Objects.change.Goals.{in-Some, in-None}
 
@@ -16,7 +16,7 @@ returns-clause-ok c =
       | in-Some w ↦ (
           let had : Some w.in-Some.history.now ≡ lookup (nat_eq c.args.obj) inside = w.in-Some.ensures.value in
           let lent = c.get_mut.follows.holds w.push.new.self in
-          on_ok-weaker _ w.push.result _ _ w.result-is (λ pushed some. adds_step c.args.self.now inside new c.args.obj step w.in-Some.history.now w.push.new.self c.self.view_is (ap (λ (o : Option (List Step)). unwrap_or o []) had) pushed (rw w.self-inside-is (lent.3 (ap is_some (sym had))).0)) w.push.ensures.ok)
+          on_ok_weaker _ w.push.result _ _ w.result-is (λ pushed some. adds_step c.args.self.now inside new c.args.obj step w.in-Some.history.now w.push.new.self c.self.view_is (ap (λ (o : Option (List Step)). unwrap_or o []) had) pushed (rw w.self-inside-is (lent.3 (ap is_some (sym had))).0)) w.push.ensures.ok)
       | in-None w ↦ (
           rw w.result-is (λ some. absurd (false≢true (ap is_some w.in-None.ensures.value ∙ ap (λ (l : List (ℕ × List Step)). is_some (lookup (nat_eq c.args.obj) l)) c.self.view_is ∙ some))))
     ]
@@ -28,6 +28,6 @@ returns-clause-err c =
       | in-Some w ↦ (
           let had : Some w.in-Some.history.now ≡ lookup (nat_eq c.args.obj) inside = w.in-Some.ensures.value in
           let lent = c.get_mut.follows.holds w.push.new.self in
-          on_err-weaker _ w.push.result _ _ w.result-is (λ same. rw w.self-inside-is (lent.0 ∙ set_value_same (nat_eq c.args.obj) inside w.push.new.self (sym had ∙ ap (λ (l : List Step). Some l) (sym same)) ∙ c.self.view_is)) w.push.ensures.err)
-      | in-None w ↦ on_err-ok c.match-get_mut.result tt _ w.result-is
+          on_err_weaker _ w.push.result _ _ w.result-is (λ same. rw w.self-inside-is (lent.0 ∙ set_value_same (nat_eq c.args.obj) inside w.push.new.self (sym had ∙ ap (λ (l : List Step). Some l) (sym same)) ∙ c.self.view_is)) w.push.ensures.err)
+      | in-None w ↦ on_err_ok c.match-get_mut.result tt _ w.result-is
     ]

@@ -6,7 +6,7 @@ use Rattle.dictionary.specs.declared.change.Change.{Change}
 use Rattle.dictionary.specs.declared.change.Pending.{Pending}
 use Rattle.dictionary.specs.declared.change.Running.{Running}
 use Rattle.dictionary.specs.Pending.{change_of, kept_at, one_more, SetsAt}
-use Rattle.dictionary.proofs.Tracking.{Tracks-change}
+use Rattle.dictionary.proofs.Tracking.{Tracks_change}
 use Rattle.dictionary.proofs.transactions.Transactions.change.Goals as goal
 use Rattle.dictionary.proofs.transactions.Transactions.change.Goals.{then-running, else-running, then-is_new, else-is_new}
 
@@ -34,4 +34,4 @@ returns-clause-ok c db row h run in_memory =
     subst (λ (l : List (Change × Pending)). SetsAt old.pending l (change_of c.args.txn place) kept) (sym c.keep.ensures.pending) c.in_ok-is_new.ensures.ok in
     let keeps : (q : ℕ) → running_at c.keep.new.self q ≡ cond (nat_eq c.args.txn q) (Some (record { noted = was.noted || memory; latest = cond c.in_ok-is_new.is_new (Some place) was.latest })) (running_at old q) =
     λ q. c.keep.ensures.running (ap is_some had) q ∙ ap₂ (λ (b : Bool) (p : Option Place). cond (nat_eq c.args.txn q) (Some (let r : Running = record { noted = b; latest = p } in r)) (running_at old q)) noted latest in
-    Tracks-change db.begun db.ended db.noted db.pending c.args.txn old c.keep.new.self change memory c.in_ok-is_new.is_new was c.keep.ensures.ended had c.in_ok-is_new.ensures.is_new sets keeps t
+    Tracks_change db.begun db.ended db.noted db.pending c.args.txn old c.keep.new.self change memory c.in_ok-is_new.is_new was c.keep.ensures.ended had c.in_ok-is_new.ensures.is_new sets keeps t

@@ -3,7 +3,7 @@ use Rattle.dictionary.specs.declared.change.Change.{Change}
 use Rattle.dictionary.specs.declared.change.Pending.{Pending}
 use Rattle.dictionary.specs.Pending.{kept_at, change_of, count_of}
 use Rattle.dictionary.specs.Transactions.{Held}
-use Rattle.dictionary.proofs.Tracking.{has_change-count}
+use Rattle.dictionary.proofs.Tracking.{has_change_count}
 use Rattle.dictionary.proofs.transactions.Transactions.has_pending.Goals as goal
 
 pub returns : goal.returns
@@ -12,4 +12,4 @@ returns c db h =
     c.has.ensures
     ∙ ap (λ (l : List (Change × Pending)). nat_lt 0 (count_of (kept_at l (change_of c.args.txn c.args.addr)))) shown
     ∙ ap (nat_lt 0) (h.counts c.args.txn c.args.addr)
-    ∙ sym (has_change-count c.args.addr (db.pending c.args.txn))
+    ∙ sym (has_change_count c.args.addr (db.pending c.args.txn))

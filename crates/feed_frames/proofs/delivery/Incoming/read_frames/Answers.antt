@@ -2,7 +2,7 @@ use Rattle.std.proofs.Common.{◌≡◌, [], ◌∷◌, ◌++◌, ◌+◌, ◌�
 use Rattle.adg_model.specs.Feed.{IsItem, item_bytes, items_bytes, most_payload}
 use Rattle.feed_frames.specs.Intake.{Took}
 use Rattle.feed_frames.specs.Counts.{standing_of}
-use Rattle.feed_frames.proofs.Frames.{length-end, length-stop}
+use Rattle.feed_frames.proofs.Frames.{length_end, length_stop}
 use Rattle.feed_frames.proofs.IntakeLaws.{took_both}
 use Rattle.feed_frames.proofs.Items.{items_push, bytes_push}
 use Rattle.feed_frames.proofs.delivery.Incoming.read_frames.Goals as goal
@@ -34,7 +34,7 @@ returns-in-Ok-End-clause-counted g c = λ _.
     let so_far = c.loop-kind.invariant.read in
     let frame = rw c.in-Ok-End.field-0-is at c.in-Ok-End.ensures.frame so_far.0 so_far.1 in
     let within : c.loop-kind.self.counts.payload ≤ most_payload = c.loop-kind.self.counts.within.0 in
-    let more : c.read_frame.new.taken ≡ c.loop-kind.taken + 5 = frame.0.counted ∙ ap (λ n. c.loop-kind.taken + n) length-end in
+    let more : c.read_frame.new.taken ≡ c.loop-kind.taken + 5 = frame.0.counted ∙ ap (λ n. c.loop-kind.taken + n) length_end in
     omega (arith, within, more, c.loop-kind.invariant.counted)
 
 pub returns-in-Ok-Stop-clause-counted : goal.returns-in-Ok-Stop-clause-counted
@@ -42,5 +42,5 @@ returns-in-Ok-Stop-clause-counted g c = λ _.
     let so_far = c.loop-kind.invariant.read in
     let frame = rw c.in-Ok-Stop.field-0-is at c.in-Ok-Stop.ensures.frame so_far.0 so_far.1 in
     let within : c.loop-kind.self.counts.payload ≤ most_payload = c.loop-kind.self.counts.within.0 in
-    let more : c.read_frame.new.taken ≡ c.loop-kind.taken + 5 = frame.0.counted ∙ ap (λ n. c.loop-kind.taken + n) length-stop in
+    let more : c.read_frame.new.taken ≡ c.loop-kind.taken + 5 = frame.0.counted ∙ ap (λ n. c.loop-kind.taken + n) length_stop in
     omega (arith, within, more, c.loop-kind.invariant.counted)

@@ -4,8 +4,8 @@ use Rattle.std.proofs.lemmas.Result.{on_ok_weaker, on_err_weaker}
 use Rattle.redo_frames.specs.Assembly.{next_number}
 use Rattle.log_merger.specs.Thread.{Receiving, HasRead}
 use Rattle.log_merger.specs.Merger.{Merging, StandsFor, with_piece, highest_number}
-use Rattle.log_merger.proofs.Merged.{stands-set, piece-other, piece-own}
-use Rattle.log_merger.proofs.Numbers.{number-within, number-set}
+use Rattle.log_merger.proofs.Merged.{stands_set, piece_other, piece_own}
+use Rattle.log_merger.proofs.Numbers.{number_within, number_set}
 use Rattle.log_merger.proofs.merger.Merger.accept.Goals as goal
 
 pub accept-requires : goal.accept-requires
@@ -14,7 +14,7 @@ accept-requires c =
     let i = c.args.thread - 1 in
     let d = c.index_mut.result.now in
     let within : i < length ts = omega (arith, c.requires.thread, ap (λ (m : Merging). length m.threads) c.self.view_is) in
-    omega (arith, number-within ts i d within, ap (λ (t : Receiving). next_number t.assembly) c.index_mut.ensures.value, ap highest_number c.self.view_is, c.requires.room)
+    omega (arith, number_within ts i d within, ap (λ (t : Receiving). next_number t.assembly) c.index_mut.ensures.value, ap highest_number c.self.view_is, c.requires.room)
 
 pub returns-clause-ok : goal.returns-clause-ok
 returns-clause-ok c =
@@ -27,9 +27,9 @@ returns-clause-ok c =
     let old : Merging = record { threads = ts; given = c.self.inside.given; refused = c.self.inside.refused } in
     let new : Merging = record { threads = set ts i m; given = c.self.inside.given; refused = c.self.inside.refused } in
     on_ok_weaker c.accept.result
-    (λ ok texts given s. stands-set old new texts (with_piece c.args.thread c.args.piece.now texts) given c.args.thread i d m refl refl (omega (arith, c.requires.thread)) within
-    (piece-other c.args.thread c.args.piece.now texts) (c.accept.ensures.number ∙ ap (λ (t : Receiving). t.number) value) (c.accept.ensures.waiting ∙ ap (λ (t : Receiving). t.waiting) value)
-    (λ records h. subst (λ (text : List ℕ). HasRead m text records) (piece-own c.args.thread c.args.piece.now texts) (ok (texts c.args.thread) records (subst (λ (t : Receiving). HasRead t (texts c.args.thread) records) (sym value) h)))
+    (λ ok texts given s. stands_set old new texts (with_piece c.args.thread c.args.piece.now texts) given c.args.thread i d m refl refl (omega (arith, c.requires.thread)) within
+    (piece_other c.args.thread c.args.piece.now texts) (c.accept.ensures.number ∙ ap (λ (t : Receiving). t.number) value) (c.accept.ensures.waiting ∙ ap (λ (t : Receiving). t.waiting) value)
+    (λ records h. subst (λ (text : List ℕ). HasRead m text records) (piece_own c.args.thread c.args.piece.now texts) (ok (texts c.args.thread) records (subst (λ (t : Receiving). HasRead t (texts c.args.thread) records) (sym value) h)))
     (subst (λ (x : Merging). StandsFor x texts given) (sym c.self.view_is) s))
     c.accept.ensures.ok
 
@@ -44,7 +44,7 @@ returns-clause-memory c =
     let old : Merging = record { threads = ts; given = c.self.inside.given; refused = c.self.inside.refused } in
     let new : Merging = record { threads = set ts i m; given = c.self.inside.given; refused = c.self.inside.refused } in
     on_err_weaker c.accept.result
-    (λ memory texts given s. stands-set old new texts texts given c.args.thread i d m refl refl (omega (arith, c.requires.thread)) within
+    (λ memory texts given s. stands_set old new texts texts given c.args.thread i d m refl refl (omega (arith, c.requires.thread)) within
     (λ k ne. refl) (c.accept.ensures.number ∙ ap (λ (t : Receiving). t.number) value) (c.accept.ensures.waiting ∙ ap (λ (t : Receiving). t.waiting) value)
     (λ records h. memory (texts c.args.thread) records (subst (λ (t : Receiving). HasRead t (texts c.args.thread) records) (sym value) h))
     (subst (λ (x : Merging). StandsFor x texts given) (sym c.self.view_is) s))
@@ -57,4 +57,4 @@ returns-clause-number c =
     let d = c.index_mut.result.now in
     let within : i < length ts = omega (arith, c.requires.thread, ap (λ (m : Merging). length m.threads) c.self.view_is) in
     let next = ap (λ (t : Receiving). next_number t.assembly) c.index_mut.ensures.value in
-    omega (arith, number-set ts i (length c.args.piece.now) d c.accept.new.self within (omega (arith, next, c.accept.ensures.next)), ap highest_number c.self.view_is)
+    omega (arith, number_set ts i (length c.args.piece.now) d c.accept.new.self within (omega (arith, next, c.accept.ensures.next)), ap highest_number c.self.view_is)

@@ -9,8 +9,8 @@ use Rattle.log_merger.specs.declared.thread.RedoThread.{RedoThread}
 use Rattle.log_merger.specs.Thread.{Receiving, IsRead}
 use Rattle.log_merger.specs.Merge.{AreQueues, KeepsRest, TakesAll, marks_of, frontier_of}
 use Rattle.log_merger.specs.Merger.{Merging, StandsFor, Merges, highest_number}
-use Rattle.log_merger.proofs.Merged.{queues-whole, merged-whole}
-use Rattle.log_merger.proofs.Numbers.{numbers, numbers-kept}
+use Rattle.log_merger.proofs.Merged.{queues_whole, merged_whole}
+use Rattle.log_merger.proofs.Numbers.{numbers, numbers_kept}
 use Rattle.log_merger.proofs.merger.Merger.merge.Goals as goal
 
 -- the threads from which entries were taken, as the merger holds them
@@ -30,7 +30,7 @@ returns-clause-merged c texts given s =
     let new : Merging = record { threads = (with_items v vs).items; given = c.self.inside.given + c.len.result; refused = c.self.inside.refused } in
     let before : StandsFor old texts given = subst (λ (m : Merging). StandsFor m texts given) (sym c.self.view_is) s in
     let whole : AllByRecursion IsRead v.items = subst (λ (m : Merging). AllByRecursion IsRead m.threads) (sym c.self.view_is) c.requires in
-    let m = merged-whole old vs texts given entries through before whole at keeps (takes (queues-whole old texts given before)) in
+    let m = merged_whole old vs texts given entries through before whole at keeps (takes (queues_whole old texts given before)) in
     let count : c.self.inside.given + c.len.result ≡ length (given ++ entries) = omega (arith, before.count, c.len.ensures, c.in_ok-entries.entries.ok.0, length-append given entries) in
     let result : Merges old new texts given entries = record { stands = m.stands new (kept-items v vs keeps) count; merged = m.merged } in
     subst (λ (m : Merging). Merges m new texts given c.from_vec.result) c.self.view_is (subst (λ (l : List LogEntry). Merges old new texts given l) (sym c.from_vec.ensures) result)
@@ -40,4 +40,4 @@ returns-clause-number c =
     let v = c.self.inside.threads in
     let vs = c.merge.new.threads in
     let keeps = subst (λ (l : List Receiving). AllZip KeepsRest l vs) c.deref_mut.ensures.value c.merge.ensures.rest in
-    ap (λ (l : List Receiving). greatest (numbers l)) (kept-items v vs keeps) ∙ ap greatest (numbers-kept v.items vs keeps) ∙ ap highest_number c.self.view_is
+    ap (λ (l : List Receiving). greatest (numbers l)) (kept-items v vs keeps) ∙ ap greatest (numbers_kept v.items vs keeps) ∙ ap highest_number c.self.view_is

@@ -4,7 +4,7 @@ use Rattle.adg_base.specs.declared.vector.RedoRecord.{RedoRecord}
 use Rattle.adg_model.specs.Records.{raw_of}
 use Rattle.redo_frames.specs.declared.record.RawRecord.{RawRecord}
 use Rattle.log_merger.specs.Thread.{Receiving, HasRead, Takes, raws}
-use Rattle.log_merger.proofs.ThreadLaws.{received, room-for}
+use Rattle.log_merger.proofs.ThreadLaws.{received, room_for}
 use Rattle.log_merger.proofs.thread.RedoThread.accept.Goals as goal
 
 pub returns-clause-ok : goal.returns-clause-ok
@@ -26,6 +26,6 @@ returns-clause-memory c =
     (λ full. subst (λ (t : Receiving). (text : List ℕ) (records : List RedoRecord) → HasRead t text records → HasRead new text records) c.self.view_is
     (λ text records h.
     let many : 13 * length c.feed.new.assembler.held ≤ length c.args.piece.now + 12 =
-    room-for old c.feed.new.assembler text c.args.piece.now records h (c.in_ok-feed.ensures.holds text (map raw_of records ++ raws c.self.inside.unread.items) h.holds) c.in_ok-feed.ensures.again in
+    room_for old c.feed.new.assembler text c.args.piece.now records h (c.in_ok-feed.ensures.holds text (map raw_of records ++ raws c.self.inside.unread.items) h.holds) c.in_ok-feed.ensures.again in
     absurd (omega (arith, full, many, c.in_ok-try_reserve.ensures.ok))))
     c.take_all.ensures.full

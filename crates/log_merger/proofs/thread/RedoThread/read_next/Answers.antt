@@ -5,7 +5,7 @@ use Rattle.adg_model.proofs.RecordsSpelled.{raw_same}
 use Rattle.change_vectors.specs.declared.refused.VectorsRefused.{VectorsRefused}
 use Rattle.redo_frames.specs.declared.record.RawRecord.{RawRecord}
 use Rattle.log_merger.specs.Thread.{Receiving, ReadsOne}
-use Rattle.log_merger.proofs.ThreadLaws.{first-is}
+use Rattle.log_merger.proofs.ThreadLaws.{first_is}
 use Rattle.log_merger.proofs.thread.RedoThread.read_next.Goals as goal
 
 pub returns-in-Err-BadVector : goal.returns-in-Err-BadVector
@@ -14,7 +14,7 @@ returns-in-Err-BadVector c =
     let r = c.in-Some.record.now in
     let i = c.in-Err-BadVector.index in
     let some : 0 < length xs = omega (arith, c.in-Some.ensures.variant.0 refl, c.self.inside.unread.ok.0) in
-    let first : xs ≡ r ∷ drop 1 xs = first-is xs r some c.in-Some.ensures.lookup in
+    let first : xs ≡ r ∷ drop 1 xs = first_is xs r some c.in-Some.ensures.lookup in
     let number : c.self.inside.number ≡ c.args.self.now.number = ap (λ (t : Receiving). t.number) c.self.view_is in
     let found : IsBadVector r.count c.as_slice.result.now i = c.in-Err-BadVector.ensures.bad i (ap (λ (x : VectorsRefused). Err x) c.in-Err-BadVector.field-0-is) in (
       refl,
@@ -35,7 +35,7 @@ returns-in_ok-push_entries-in-Ok c =
     let vs = c.in-Ok.vectors in
     let found = c.in-Ok.ensures.found in
     let some : 0 < length xs = omega (arith, c.in-Some.ensures.variant.0 refl, c.self.inside.unread.ok.0) in
-    let first : xs ≡ r ∷ drop 1 xs = first-is xs r some c.in-Some.ensures.lookup in
+    let first : xs ≡ r ∷ drop 1 xs = first_is xs r some c.in-Some.ensures.lookup in
     let new : Receiving = record { number = c.self.inside.number; assembly = c.self.inside.assembler; mark = c.self.inside.mark; unread = c.pop_front.new.self.items; waiting = c.push_entries.new.waiting.items } in
     subst (λ (t : Receiving). ReadsOne t new) c.self.view_is
     (record {

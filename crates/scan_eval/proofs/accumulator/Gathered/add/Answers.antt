@@ -6,7 +6,7 @@ use Rattle.adg_model.specs.Query.{meets, filtered, aggregates_of}
 use Rattle.scan_eval.specs.declared.tally.Tally.{Tally}
 use Rattle.scan_eval.specs.Gathered.{HasTallies, HasGroups, Gathers}
 use Rattle.scan_eval.specs.Tally.{size_of, with_row}
-use Rattle.scan_eval.proofs.TallyLaws.{room_for_one, tallies-one_more}
+use Rattle.scan_eval.proofs.TallyLaws.{room_for_one, tallies_one_more}
 use Rattle.scan_eval.proofs.Writes.{filter_fewer}
 use Rattle.scan_eval.proofs.accumulator.Gathered.add.Goals as goal
 
@@ -42,5 +42,5 @@ returns-in-Tallies g c =
       tallied = with_items_is c.in-Tallies.tallies c.add_row.new.tallies (c.add_row.auto.tallies ∙ c.as_mut_slice.ensures.len)
           ∙ e
           ∙ ap (map (with_row row)) (c.as_mut_slice.ensures.value ∙ had.tallied)
-          ∙ tallies-one_more (aggregates_of select.what) kept row;
+          ∙ tallies_one_more (aggregates_of select.what) kept row;
     }) c.add_row.ensures

@@ -7,7 +7,8 @@ use Rattle.std.proofs.lemmas.Result.{on_ok_weaker}
 use Rattle.adg_base.specs.declared.answer.Cell.{Cell}
 use Rattle.adg_base.specs.declared.command.Select.{Select}
 use Rattle.adg_base.specs.declared.value.Value.{Value}
-use Rattle.adg_model.specs.Query.{meets, filtered, cell_of, aggregates_of}
+use Rattle.adg_model.specs.Query.{meets, filtered, aggregates_of}
+use Rattle.adg_base.specs.Values.{cell_of}
 use Rattle.scan_eval.specs.declared.accumulator.Gathered.{Gathered}
 use Rattle.scan_eval.specs.declared.accumulator.Gathered.TheVariants.{Lines, Tallies, Groups}
 use Rattle.scan_eval.specs.declared.tally.Tally.{Tally}
@@ -15,7 +16,7 @@ use Rattle.scan_eval.specs.Gathered.{HasTallies, HasGroups, Gathers}
 use Rattle.adg_base.specs.declared.command.Aggregate.{Aggregate}
 use Rattle.scan_eval.specs.Groups.{AreGroups}
 use Rattle.scan_eval.specs.Tally.{size_of, with_tally, tallies_of}
-use Rattle.scan_eval.proofs.TallyLaws.{room_for_more, tallies-append}
+use Rattle.scan_eval.proofs.TallyLaws.{room_for_more, tallies_append}
 use Rattle.scan_eval.proofs.Writes.{filter_fewer}
 use Rattle.scan_eval.proofs.accumulator.Gathered.join.Goals as goal
 use Rattle.scan_eval.proofs.accumulator.Gathered.join.Goals.{in-Lines-Lines+in_ok-append-in-Lines-Lines, in-Tallies-Tallies, in-Groups-Groups, in_default+in-Lines-1, in_default+in-Tallies-1, in_default+in-Groups-1, in_default+in-Lost-1}
@@ -85,7 +86,7 @@ returns c =
             tallied = with_items_is ts w.join_all.new.tallies (w.join_all.auto.tallies ∙ w.as_mut_slice.ensures.len)
                 ∙ e
                 ∙ ap₂ (λ (x y : List Tally). map (λ p. with_tally p.0 p.1) (zip x y)) (w.as_mut_slice.ensures.value ∙ had.tallied) (w.as_slice.ensures.value ∙ have.tallied)
-                ∙ tallies-append (aggregates_of select.what) kept later;
+                ∙ tallies_append (aggregates_of select.what) kept later;
           }) w.join_all.ensures)
       | in-Groups-Groups w ↦
           let a = w.in-Groups-Groups.groups in

@@ -5,10 +5,10 @@ use Rattle.adg_base.specs.declared.value.Value.{Value}
 use Rattle.adg_model.specs.Query.{value_in, rows_with}
 use Rattle.scan_eval.specs.declared.seen.Seen.{Seen}
 use Rattle.scan_eval.specs.declared.tally.Tally.{Tally}
-use Rattle.scan_eval.specs.Shown.{shown, same}
+use Rattle.adg_base.specs.Values.{shown, same}
 use Rattle.scan_eval.specs.Tally.{size_of, with_row, tallies_of}
 use Rattle.scan_eval.proofs.GroupLaws.{Row, has_key, line, around, block_of_row, has_part, fewer_with, grown, covered_more}
-use Rattle.scan_eval.proofs.TallyLaws.{room_for_one, tallies-one_more}
+use Rattle.scan_eval.proofs.TallyLaws.{room_for_one, tallies_one_more}
 use Rattle.scan_eval.proofs.group.Groups.add.Goals as goal
 
 pub overflow_mul-from : goal.overflow_mul-from
@@ -69,7 +69,7 @@ returns-clause-groups g c =
     let part = has_part aggregates now.column rows k now.keys.items c.in_ok-place.place now.tallies.items at made.parts.tallied in
     let own : k ≡ value_in now.column row = c.value_in.ensures ∙ ap (λ (m : ℕ). value_in m row) (sym made.column) in
     let is = block_of_row now.column k row own in
-    let written = ap (map (with_row row)) part.part ∙ tallies-one_more aggregates (rows_with now.column k rows) row in
+    let written = ap (map (with_row row)) part.part ∙ tallies_one_more aggregates (rows_with now.column k rows) row in
     let whole = grown aggregates now.column rows (row ∷ []) k now.keys.items c.in_ok-place.place now.tallies.items (map (with_row row) (take (n + w - n) (drop n now.tallies.items))) is at made.parts.tallied written in
     let seen : c.of-self.result.rows ≡ rows ++ row ∷ [] = c.of-self.ensures in
     let covers : (x : Value) → list_any (same x) c.args.self.now.keys.items ≡ list_any (has_key now.column x) rows =

@@ -5,8 +5,8 @@ use Rattle.adg_base.specs.declared.value.Value.{Value}
 use Rattle.adg_base.specs.declared.value.Value.TheVariants.{Null}
 use Rattle.adg_model.specs.Query.{rows_with}
 use Rattle.scan_eval.specs.declared.seen.Seen.{Seen}
-use Rattle.scan_eval.specs.Shown.{same}
-use Rattle.scan_eval.proofs.GroupLaws.{Row, has_key, line, fewer_with, key_rows, key_rows-before, key_by_key, same_any, same_lines}
+use Rattle.adg_base.specs.Values.{same}
+use Rattle.scan_eval.proofs.GroupLaws.{Row, has_key, line, fewer_with, key_rows, key_rows_before, key_by_key, same_any, same_lines}
 use Rattle.scan_eval.proofs.group.Groups.join.Goals as goal
 
 pub join_key-requires-clause-room : goal.join_key-requires-clause-room
@@ -19,7 +19,7 @@ join_key-requires-clause-room c =
     let key = get_or keys i Null in
     let within : i < length keys = omega (arith, c.loop-index-test.true, c.len-index-end.ensures, others.keys.ok.0) in
     let own : length (rows_with c.loop-index.self.column key c.loop-index.self.seen.rows) ≡ length (rows_with before.column key before.seen.rows) =
-    ap length (ap₂ (λ (col : ℕ) (rs : List Row). rows_with col key rs) inv.column inv.seen ∙ key_rows-before before.column before.seen.rows others.seen.rows keys i Null c.requires.others.parts.distinct within) in
+    ap length (ap₂ (λ (col : ℕ) (rs : List Row). rows_with col key rs) inv.column inv.seen ∙ key_rows_before before.column before.seen.rows others.seen.rows keys i Null c.requires.others.parts.distinct within) in
     let few = fewer_with before.column key before.seen.rows in
     let more = fewer_with c.loop-index.self.column key others.seen.rows in
     omega (arith, own, few, more, c.requires.room)

@@ -6,10 +6,10 @@ use Rattle.adg_base.specs.declared.value.Value.TheVariants.{Null}
 use Rattle.adg_model.specs.Query.{value_in, rows_with}
 use Rattle.scan_eval.specs.declared.seen.Seen.{Seen}
 use Rattle.scan_eval.specs.declared.tally.Tally.{Tally}
-use Rattle.scan_eval.specs.Shown.{shown, same}
+use Rattle.adg_base.specs.Values.{shown, same}
 use Rattle.scan_eval.specs.Tally.{size_of, with_tally, tallies_of}
 use Rattle.scan_eval.proofs.GroupLaws.{Row, has_key, line, around, around_index, any_around, block_of_key, has_part, grown, covered_more}
-use Rattle.scan_eval.proofs.TallyLaws.{room_for_more, tallies-append}
+use Rattle.scan_eval.proofs.TallyLaws.{room_for_more, tallies_append}
 use Rattle.scan_eval.proofs.group.Groups.join_key.Goals as goal
 
 pub overflow_mul-from : goal.overflow_mul-from
@@ -107,7 +107,7 @@ returns-clause-groups c =
     ∙ piece.part
     ∙ ap₂ (λ (col : ℕ) (v : Value). line aggregates col others.seen.rows v) columns (sym same_key) in
     let written : map (λ p. with_tally p.0 p.1) (zip (take (n + w - n) (drop n now.tallies.items)) c.tallies_at-more.result.now) ≡ tallies_of aggregates (rows_with now.column k now.seen.rows ++ block) =
-    ap₂ (λ (ts us : List Tally). map (λ p. with_tally p.0 p.1) (zip ts us)) part.part more ∙ tallies-append aggregates (rows_with now.column k now.seen.rows) block in
+    ap₂ (λ (ts us : List Tally). map (λ p. with_tally p.0 p.1) (zip ts us)) part.part more ∙ tallies_append aggregates (rows_with now.column k now.seen.rows) block in
     let whole = grown aggregates now.column now.seen.rows block k now.keys.items c.in_ok-place.place now.tallies.items (map (λ p. with_tally p.0 p.1) (zip (take (n + w - n) (drop n now.tallies.items)) c.tallies_at-more.result.now)) is at made.parts.tallied written in
     let seen : c.of-self.result.rows ≡ now.seen.rows ++ block =
     c.of-self.ensures ∙ ap₂ (λ (col : ℕ) (v : Value). now.seen.rows ++ rows_with col v others.seen.rows) columns (sym same_key) in

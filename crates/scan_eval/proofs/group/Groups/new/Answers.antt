@@ -2,7 +2,7 @@ use Rattle.std.proofs.Common.{◌≡◌, ℕ, List, [], Option, None, refl, sym,
 use Rattle.std.specs.List.{flat_map, list_any, position, IsDistinct}
 use Rattle.adg_base.specs.declared.value.Value.{Value}
 use Rattle.scan_eval.specs.declared.tally.Tally.{Tally}
-use Rattle.scan_eval.specs.Shown.{same}
+use Rattle.adg_base.specs.Values.{same}
 use Rattle.scan_eval.proofs.GroupLaws.{Row, has_key, line}
 use Rattle.scan_eval.proofs.group.Groups.new.Goals as goal
 

@@ -4,10 +4,10 @@ use Rattle.std.proofs.lemmas.Bool.{cases_Bool, cond-true, cond-false}
 use Rattle.std.proofs.lemmas.Map.Keys.{IsDistinct-push}
 use Rattle.std.proofs.lemmas.Map.Steps.{list_any_congr}
 use Rattle.adg_base.specs.declared.value.Value.{Value}
-use Rattle.scan_eval.specs.Shown.{shown, same}
+use Rattle.adg_base.specs.Values.{shown, same}
 use Rattle.scan_eval.proofs.GroupLaws.{has_key, line, opened}
 use Rattle.scan_eval.proofs.Places.{place_of_new, place_of_old}
-use Rattle.scan_eval.proofs.ValueOrder.{same_equiv}
+use Rattle.adg_base.proofs.ValueOrder.{same_equiv}
 use Rattle.scan_eval.proofs.group.Groups.open.Goals as goal
 
 -- the place of each key, with one more at the end

@@ -4,10 +4,10 @@ use Rattle.std.proofs.lemmas.Bool.{cases_Bool}
 use Rattle.std.proofs.lemmas.List.Quantifiers.{position-Some}
 use Rattle.adg_base.specs.declared.memory.Memory.{Memory}
 use Rattle.adg_base.specs.declared.value.Value.{Value}
-use Rattle.scan_eval.specs.Shown.{shown, same}
+use Rattle.adg_base.specs.Values.{shown, same}
 use Rattle.scan_eval.specs.Groups.{keys_with}
 use Rattle.scan_eval.proofs.Places.{no_place, none_from_no_place, place_of_new}
-use Rattle.scan_eval.proofs.ValueOrder.{same_itself}
+use Rattle.adg_base.proofs.ValueOrder.{same_itself}
 use Rattle.scan_eval.proofs.group.Groups.place_of.Goals as goal
 
 some_from_place : (k : Value) (keys : List Value) (place : ℕ) → Some place ≡ position (same k) keys → list_any (same k) keys ≡ true

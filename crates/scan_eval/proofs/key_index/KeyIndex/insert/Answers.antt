@@ -5,7 +5,7 @@ use Rattle.std.specs.Ordering.{int_eq}
 use Rattle.adg_base.specs.declared.value.Value.{Value}
 use Rattle.adg_base.specs.declared.value.Value.TheVariants.{Null, Int, Text}
 use Rattle.scan_eval.specs.declared.key_index.KeyIndex.{KeyIndex}
-use Rattle.scan_eval.specs.Shown.{shown, same}
+use Rattle.adg_base.specs.Values.{shown, same}
 use Rattle.scan_eval.specs.KeyIndex.{place_at}
 use Rattle.scan_eval.proofs.TextKeys.{has_bytes, same_bytes, after_change}
 use Rattle.scan_eval.proofs.key_index.KeyIndex.insert.Goals as goal

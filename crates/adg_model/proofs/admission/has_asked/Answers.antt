@@ -4,7 +4,7 @@ use Rattle.adg_base.specs.declared.command.Aggregate.{Aggregate}
 use Rattle.adg_base.specs.declared.command.What.{What}
 use Rattle.adg_model.specs.Query.{columns_in, column_of}
 use Rattle.adg_model.proofs.PlainMeaning.{all_in_columns}
-use Rattle.adg_model.proofs.plain.meaning.has_asked.Goals as goal
+use Rattle.adg_model.proofs.admission.has_asked.Goals as goal
 
 pub returns-in-Aggregates : goal.returns-in-Aggregates
 returns-in-Aggregates c =

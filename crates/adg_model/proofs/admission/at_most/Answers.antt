@@ -1,6 +1,6 @@
 use Rattle.std.proofs.Common.{ℕ, take, ap, ◌∙◌}
 use Rattle.std.proofs.lemmas.List.{take_min}
-use Rattle.scan_eval.proofs.admission.at_most.Goals as goal
+use Rattle.adg_model.proofs.admission.at_most.Goals as goal
 
 pub returns : goal.returns
 returns c =

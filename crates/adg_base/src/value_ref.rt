@@ -1,15 +1,14 @@
 ghost use Rattle.std.specs.Prelude.{◌≡◌, List, length, slice_get, unwrap_or, IfOk};
 ghost use Rattle.adg_base.specs.declared.value.Value.{Value as Datum};
 ghost use Rattle.adg_base.specs.declared.value.Value.TheVariants.{Null};
-ghost use Rattle.adg_model.specs.Query.{cell_of, value_cmp};
-ghost use Rattle.scan_eval.specs.Shown.{shown};
+ghost use Rattle.adg_base.specs.Values.{cell_of, value_cmp, shown};
 
-use adg_base::answer::Cell;
-use adg_base::list::Duplicate;
-use adg_base::memory::Memory;
-use adg_base::row::Row;
-use adg_base::text::Text;
-use adg_base::value::Value;
+use crate::answer::Cell;
+use crate::list::Duplicate;
+use crate::memory::Memory;
+use crate::row::Row;
+use crate::text::Text;
+use crate::value::Value;
 use std::alloc::Global;
 use std::cmp::Ordering;
 
