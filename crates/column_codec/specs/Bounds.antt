@@ -4,8 +4,7 @@ use Rattle.std.specs.List.{AllByRecursion}
 use Rattle.std.specs.Ordering.{is_lt, is_gt}
 use Rattle.std.specs.declared.cmp.Ordering.{Ordering}
 use Rattle.adg_base.specs.declared.value.Value.{Value}
-use Rattle.adg_model.specs.Query.{value_cmp, is_null}
-use Rattle.scan_eval.specs.Shown.{shown}
+use Rattle.adg_base.specs.Values.{value_cmp, is_null, shown}
 use Rattle.column_codec.specs.declared.bounds.Bounds.{Bounds as Ends}
 use Rattle.column_codec.specs.declared.bounds.Side.{Side}
 use Rattle.column_codec.specs.declared.bounds.Side.TheVariants.{Least, Greatest}

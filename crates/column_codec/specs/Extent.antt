@@ -1,11 +1,9 @@
 -- The rows of an extent, column by column.
 use Rattle.std.specs.Prelude.{◌≡◌, ℕ, ◌+◌, ◌*◌, ◌/◌, Bool, ◌==◌, nat_lt, ◌&&◌, if◌then◌else◌, List, [], ◌∷◌, length, filter, Option, Some, None}
 use Rattle.std.specs.List.{AllByRecursion, flat_map, range_with_len}
-use Rattle.adg_base.specs.Address.{Place}
+use Rattle.adg_base.specs.Address.{Place, same_place, block_places}
 use Rattle.adg_base.specs.declared.value.Value.{Value}
 use Rattle.adg_base.specs.declared.placed.PlacedRow.{PlacedRow}
-use Rattle.adg_model.specs.Database.{same_place}
-use Rattle.adg_model.specs.Query.{block_places}
 use Rattle.column_codec.specs.Values.{row_at}
 
 -- the addresses of the rows of an extent in order, and its columns

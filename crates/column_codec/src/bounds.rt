@@ -1,10 +1,10 @@
 ghost use Rattle.std.specs.Prelude.{◌≡◌, ◌++◌, ◌∷◌, [], length, List};
 ghost use Rattle.adg_base.specs.declared.value.Value.{Value as Datum};
-ghost use Rattle.scan_eval.specs.Shown.{shown};
+ghost use Rattle.adg_base.specs.Values.{shown};
 ghost use Rattle.column_codec.specs.Bounds.{AreBounds, IsFirstPlace, HasFound, better_of};
 
 use adg_base::value::Value;
-use scan_eval::value_ref::ValueRef;
+use adg_base::value_ref::ValueRef;
 use std::cmp::Ordering;
 
 /// The places of the first least and the first greatest value, of those that are there.

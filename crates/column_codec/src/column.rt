@@ -1,6 +1,6 @@
 ghost use Rattle.std.specs.Prelude.{◌≡◌, ◌<◌, false, map, length, IfOk};
 ghost use Rattle.std.specs.List.{list_any};
-ghost use Rattle.scan_eval.specs.Shown.{shown};
+ghost use Rattle.adg_base.specs.Values.{shown};
 ghost use Rattle.column_codec.specs.Values.{value_at};
 ghost use Rattle.column_codec.specs.Bounds.{AreBounds};
 ghost use Rattle.column_codec.specs.Column.{int_of, is_text, values_of};
@@ -9,7 +9,7 @@ use crate::bounds::{Bounds, bounds_of};
 use adg_base::list::{Duplicate, List};
 use adg_base::memory::Memory;
 use adg_base::value::Value;
-use scan_eval::value_ref::ValueRef;
+use adg_base::value_ref::ValueRef;
 use std::alloc::Global;
 use std::marker::Model;
 use std::sync::Arc;

@@ -1,5 +1,5 @@
 ghost use Rattle.std.specs.Prelude.{◌≡◌, IfOk};
-ghost use Rattle.scan_eval.specs.Shown.{shown};
+ghost use Rattle.adg_base.specs.Values.{shown};
 ghost use Rattle.column_codec.specs.Values.{row_at, value_at};
 ghost use Rattle.column_codec.specs.Extent.{PlacedColumns};
 
@@ -7,7 +7,7 @@ use crate::column::{Column, ColumnList};
 use adg_base::address::{Addr, AddrList};
 use adg_base::list::Duplicate;
 use adg_base::memory::Memory;
-use scan_eval::value_ref::{RowView, ValueRef};
+use adg_base::value_ref::{RowView, ValueRef};
 use std::alloc::Global;
 use std::marker::Model;
 use std::sync::Arc;

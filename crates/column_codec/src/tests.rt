@@ -7,7 +7,7 @@ use adg_base::memory::Memory;
 use adg_base::number::Obj;
 use adg_base::text::Text;
 use adg_base::value::Value;
-use scan_eval::value_ref::{RowView, ValueRef};
+use adg_base::value_ref::{RowView, ValueRef};
 use std::alloc::Global;
 use std::process::Abort;
 use std::test::Fail;
