@@ -1,3 +1,3 @@
 pub mod Map
 pub mod Units
-mod Rows
+pub mod Rows
