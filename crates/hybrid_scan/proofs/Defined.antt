@@ -1,5 +1,5 @@
 -- The definition of an object stands where no entry between two SCNs changes it.
-use Rattle.std.proofs.Common.{◌≡◌, ℕ, ◌+◌, ◌<◌, ◌≤◌, Bool, true, false, not, nat_le, ◌==◌, cond, if◌then◌else◌, List, [], ◌∷◌, ◌++◌, length, Option, Some, None, refl, sym, ap, subst, ◌∙◌, arith, true≢false}
+use Rattle.std.proofs.Common.{◌≡◌, ℕ, ◌<◌, ◌≤◌, Bool, true, false, not, nat_le, ◌==◌, cond, if◌then◌else◌, List, [], ◌∷◌, ◌++◌, length, Option, Some, None, refl, sym, ap, subst, ◌∙◌, arith, true≢false}
 use Rattle.std.specs.Option.{is_some}
 use Rattle.std.specs.List.{AllByRecursion, Contains}
 use Rattle.std.proofs.lemmas.Bool.Decides.{nat_tests}
@@ -17,7 +17,7 @@ use Rattle.adg_model.proofs.LogLaws.{each_weaker, each_upto, upto_append, upto_a
 use Rattle.adg_model.proofs.RowLaws.{walked_append}
 use Rattle.row_blocks.specs.Law.{IsLog}
 use Rattle.row_blocks.proofs.PickedLaw.{each_parts, each_and, sound_parts}
-use Rattle.row_blocks.proofs.Walked.{Splits, splits}
+use Rattle.row_blocks.proofs.Walked.{splits}
 use Rattle.hybrid_scan.specs.Covers.{changes_definition, IsStanding, IsWideAt}
 
 -- an object that is defined was created

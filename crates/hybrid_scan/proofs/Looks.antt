@@ -1,7 +1,7 @@
 -- A look at a unit has the unit's columns.
 use Rattle.std.proofs.Common.{◌≡◌, ℕ, Bool, true, false, not, nat_le, ◌&&◌, List, Option, Some, None, sym, subst}
 use Rattle.std.specs.Option.{ForSome}
-use Rattle.column_codec.specs.Extent.{PlacedColumns, AreColumns}
+use Rattle.column_codec.specs.Extent.{AreColumns}
 use Rattle.column_units.specs.declared.unit.Unit.{Unit as ColumnUnit}
 use Rattle.column_units.specs.declared.unit.UnitState.{UnitState}
 use Rattle.column_units.specs.declared.unit.UnitState.TheVariants.{Loading, Ready}

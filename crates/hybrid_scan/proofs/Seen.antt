@@ -1,9 +1,8 @@
 -- What is seen by a look that covers an SCN.
-use Rattle.std.proofs.Common.{◌≡◌, ℕ, zero, suc, ◌+◌, ◌<◌, ◌≤◌, Bool, true, false, cond, if◌then◌else◌, List, [], ◌∷◌, map, Option, Some, None, option_map, refl, sym, ap, ap₂, subst, ◌∙◌, arith, true≢false}
-use Rattle.std.specs.List.{AllByRecursion, Contains, range_with_len}
+use Rattle.std.proofs.Common.{◌≡◌, ℕ, zero, suc, ◌+◌, ◌<◌, ◌≤◌, Bool, true, false, if◌then◌else◌, List, map, Some, None, option_map, refl, sym, ap, ap₂, subst, ◌∙◌, arith, true≢false}
+use Rattle.std.specs.List.{AllByRecursion, range_with_len}
 use Rattle.std.proofs.lemmas.Bool.Decides.{nat_tests}
 use Rattle.adg_base.specs.Address.{Place}
-use Rattle.adg_base.specs.declared.value.Value.{Value}
 use Rattle.adg_base.specs.declared.log.LogEntry.{LogEntry}
 use Rattle.adg_model.specs.Database.{Rows, rows_at}
 use Rattle.adg_model.specs.Query.{padded}
@@ -11,8 +10,7 @@ use Rattle.adg_model.proofs.LogLaws.{each_weaker}
 use Rattle.column_codec.specs.Extent.{extent_places, is_in_extent, row_in}
 use Rattle.column_units.specs.Unit.{marks}
 use Rattle.column_units.specs.Look.{Look}
-use Rattle.row_blocks.specs.Law.{IsLog}
-use Rattle.hybrid_scan.specs.Scan.{wide, seen, seen_by, extent_rows}
+use Rattle.hybrid_scan.specs.Scan.{wide, seen, extent_rows}
 use Rattle.hybrid_scan.specs.Covers.{Covers, Serves, LooksGiveRows}
 use Rattle.hybrid_scan.specs.Progress.{nth_place}
 use Rattle.hybrid_scan.proofs.Places.{places_are}

@@ -1,6 +1,6 @@
 -- A row that no transaction changed between two SCNs is the same at both.
-use Rattle.std.proofs.Common.{◌≡◌, ℕ, zero, suc, ◌+◌, ◌<◌, ◌≤◌, Bool, true, false, not, nat_le, ◌==◌, ◌&&◌, cond, if◌then◌else◌, List, [], ◌∷◌, ◌++◌, length, Option, Some, None, refl, sym, ap, ap₂, subst, ◌∙◌, arith, inl, inr, ◌⊎◌, true≢false}
-use Rattle.std.specs.List.{AllByRecursion, Contains, filter_map, cons_option, slice_index_or, list_any}
+use Rattle.std.proofs.Common.{◌≡◌, ℕ, ◌<◌, ◌≤◌, Bool, true, false, nat_le, ◌==◌, ◌&&◌, if◌then◌else◌, List, [], ◌∷◌, ◌++◌, Option, Some, None, refl, sym, ap, ap₂, subst, ◌∙◌, arith, true≢false}
+use Rattle.std.specs.List.{AllByRecursion, Contains, cons_option, list_any}
 use Rattle.std.proofs.lemmas.Bool.Decides.{nat_tests}
 use Rattle.std.proofs.lemmas.List.Elements.{Contains-append_right}
 use Rattle.adg_base.specs.Address.{Place, place, same_place}
@@ -12,7 +12,7 @@ use Rattle.adg_model.specs.Database.{commits, rows_at, touched_by, touched}
 use Rattle.adg_model.proofs.LogLaws.{each_weaker}
 use Rattle.row_blocks.specs.declared.version.Version.{Version}
 use Rattle.row_blocks.specs.declared.version.End.{End}
-use Rattle.row_blocks.specs.Pick.{Commits, candidate, later, counted, row_of, latest_by, picked_by}
+use Rattle.row_blocks.specs.Pick.{Commits, candidate, later, counted, row_of, latest_by}
 use Rattle.row_blocks.specs.Versions.{Deed, Makes, Strikes, stands, strike, deed_at, after_deed, versions_after, versions_of, end_by, earlier, end_of}
 use Rattle.row_blocks.specs.Law.{IsLog, commits_at}
 use Rattle.row_blocks.proofs.PickedLaw.{picked_is_committed}

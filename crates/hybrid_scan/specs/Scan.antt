@@ -1,7 +1,6 @@
 -- The rows of an extent, of which some are taken from columns and the others from the store.
-use Rattle.std.specs.Prelude.{ℕ, Bool, if◌then◌else◌, List, map, Option, Some, None, option_map}
+use Rattle.std.specs.Prelude.{ℕ, if◌then◌else◌, List, map, Option, Some, None, option_map}
 use Rattle.std.specs.List.{filter_map}
-use Rattle.adg_base.specs.Address.{Place}
 use Rattle.adg_base.specs.declared.value.Value.{Value}
 use Rattle.adg_base.specs.declared.placed.PlacedRow.{PlacedRow}
 use Rattle.adg_model.specs.Database.{Rows}

@@ -1,11 +1,10 @@
-use Rattle.std.proofs.Common.{◌≡◌, ◌+◌, ◌<◌, sym, ap, ap₂, subst, ◌∙◌, arith}
-use Rattle.std.specs.List.{filter_map}
+use Rattle.std.proofs.Common.{◌≡◌, ◌+◌, sym, ap, ap₂, subst, ◌∙◌, arith}
 use Rattle.std.specs.Prelude.{option_map, slice_get, is_some}
 use Rattle.column_codec.specs.Values.{row_at}
 use Rattle.column_codec.specs.Extent.{row_in}
 use Rattle.hybrid_scan.specs.Scan.{seen}
-use Rattle.hybrid_scan.specs.Progress.{is_here, nth_place, HasScanned}
-use Rattle.hybrid_scan.proofs.Places.{nth_places, places_more, length_places}
+use Rattle.hybrid_scan.specs.Progress.{is_here, nth_place}
+use Rattle.hybrid_scan.proofs.Places.{nth_places, length_places}
 use Rattle.hybrid_scan.proofs.Found.{IsNext, place_if, one_if, row_here, next_more, next_most, counted_here}
 use Rattle.hybrid_scan.proofs.Handed.{scanned_more, scanned_length, seen_same, still_again, all_scanned, more_places, one_most, as_one}
 use Rattle.hybrid_scan.proofs.scan.add_seen.Goals as goal

@@ -1,8 +1,7 @@
-use Rattle.std.proofs.Common.{◌≡◌, ◌+◌, ◌*◌, ◌<◌, ◌++◌, length, sym, ap, subst, ◌∙◌, arith}
+use Rattle.std.proofs.Common.{◌≡◌, ◌+◌, ◌*◌, ◌++◌, length, ap, ◌∙◌, arith}
 use Rattle.adg_base.specs.Address.{block_places}
 use Rattle.hybrid_scan.specs.Reader.{placed}
 use Rattle.hybrid_scan.specs.Scan.{wide, wide_rows}
-use Rattle.hybrid_scan.specs.Progress.{HasScanned}
 use Rattle.hybrid_scan.proofs.Handed.{first_blocks, length_blocks, length_placed, scanned_length, block_more, with_length, still_again, all_blocks}
 use Rattle.hybrid_scan.proofs.scan.add_stored.Goals as goal
 

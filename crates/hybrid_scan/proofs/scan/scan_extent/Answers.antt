@@ -1,4 +1,4 @@
-use Rattle.std.proofs.Common.{◌≡◌, List, ◌++◌, ap₂, ◌∙◌}
+use Rattle.std.proofs.Common.{◌++◌, ap₂, ◌∙◌}
 use Rattle.std.specs.Prelude.{option_copied}
 use Rattle.hybrid_scan.specs.Scan.{scanned}
 use Rattle.hybrid_scan.proofs.Seen.{looks_give_rows}

@@ -1,4 +1,4 @@
-use Rattle.std.proofs.Common.{◌≡◌, ◌++◌, IfSome, sym, ap, ap₂, subst, ◌∙◌, arith}
+use Rattle.std.proofs.Common.{◌++◌, sym, ap, ap₂, ◌∙◌, arith}
 use Rattle.std.specs.Prelude.{option_to_list, option_map}
 use Rattle.adg_base.specs.Address.{place}
 use Rattle.row_blocks.specs.Pick.{picked_by}
