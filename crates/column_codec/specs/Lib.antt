@@ -1,0 +1,4 @@
+pub mod Values
+pub mod Bounds
+pub mod Column
+pub mod Extent

@@ -1,0 +1,3 @@
+pub mod Unit
+pub mod Shard
+pub mod Look

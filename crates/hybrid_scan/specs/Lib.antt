@@ -1,0 +1,4 @@
+pub mod Reader
+pub mod Scan
+pub mod Progress
+pub mod Covers

@@ -1,0 +1,6 @@
+//! From the rows of an extent to its columns.
+#![tactic(auto)]
+
+pub mod build;
+#[cfg(test)]
+mod tests;
