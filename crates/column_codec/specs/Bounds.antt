@@ -1,4 +1,4 @@
--- The places of the first least and the first greatest value.
+-- Where the smallest and the largest value stand first.
 use Rattle.std.specs.Prelude.{◌≡◌, ℕ, Bool, true, false, List, ◌∷◌, ◌++◌, length, Option, Some, None}
 use Rattle.std.specs.List.{AllByRecursion}
 use Rattle.std.specs.Ordering.{is_lt, is_gt}
@@ -32,7 +32,7 @@ abbrev pub IsFirstPlace : (Ordering → Bool) → List Value → Option ℕ → 
 IsFirstPlace better values None = AreNull values
 IsFirstPlace better values (Some place) = IsFirst better values place
 
--- the places of the first least and the first greatest value, or None where no value is there
+-- where they stand first, or None where all values are Null
 abbrev pub AreBounds : List Value → Option Ends → Type 0
 AreBounds values None = AreNull values
 AreBounds values (Some ends) = IsFirst is_lt values ends.least × IsFirst is_gt values ends.greatest

@@ -7,7 +7,7 @@ use adg_base::value::Value;
 use adg_base::value_ref::ValueRef;
 use std::cmp::Ordering;
 
-/// The places of the first least and the first greatest value, of those that are there.
+/// Where the smallest and the largest value of a column stand first. Null counts for neither.
 #[derive(Clone, Copy, Debug, PartialEq, Eq)]
 pub struct Bounds {
     pub least: usize,

@@ -95,8 +95,8 @@ impl Column {
         self.plain.value(index)
     }
 
-    /// The places of the first least and the first greatest value that is there, an integer below every
-    /// text; None exactly where none is there.
+    /// Where the smallest and the largest value stand first. Null counts for neither, and integers come
+    /// before texts; None exactly where all values are Null.
     pub fn bounds(&self) -> Option<Bounds>
         ensures { AreBounds self.now result }
     {

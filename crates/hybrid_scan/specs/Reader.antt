@@ -24,7 +24,7 @@ placed rows places = filter_map (λ a. option_map (placed_at a) (rows a)) places
 abbrev pub picked_in : Commits → List (List Version) → Rows
 picked_in commits slots a = picked_by commits (slice_index_or slots a.slot [])
 
--- each SCN that was covered still is, with the same rows
+-- no SCN that was covered is lost, and none changes its rows
 abbrev pub StillCovers : (covers covers' : ℕ → Type 0) → (rows rows' : ℕ → Rows) → Type 0
 StillCovers covers covers' rows rows' = (q : ℕ) → covers q → covers' q × ((a : Place) → rows' q a ≡ rows q a)
 
