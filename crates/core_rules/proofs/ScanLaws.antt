@@ -25,6 +25,7 @@ finished_scans_have_meaning c place s i found whole =
     let is = i.scans place s found in
     let rows = scanned_rows c s is whole in
     record {
+      rows = rows;
       answer = ap (select_lines s.select) rows;
       split =
           is.split

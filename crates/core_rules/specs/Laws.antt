@@ -10,7 +10,7 @@ use Rattle.adg_base.specs.declared.answer.Reply.{Reply}
 use Rattle.adg_model.specs.declared.mined.Mined.TheVariants as mined
 use Rattle.adg_model.specs.Mined.{mined_of}
 use Rattle.adg_model.specs.Database.{rows_at}
-use Rattle.adg_model.specs.Query.{select_lines, answer_of, row_count}
+use Rattle.adg_model.specs.Query.{select_lines, answer_of, row_count, table_rows}
 use Rattle.adg_model.specs.Command.{Spells}
 use Rattle.adg_model.specs.Reply.{IsReply}
 use Rattle.core_rules.specs.declared.event.Event.{Event}
@@ -97,9 +97,10 @@ FlushEnds =
     → AllByRecursion (λ l. (is_unclaimed l.stage ≡ true) ⊎ (is_finished l.stage ≡ true)) c.links
     → EndsFlush c through (count_by (λ l. is_unclaimed l.stage) c.links * (length c.workers + 34) + 1)
 
--- A finished scan has the meaning of its SELECT: the answer is that over the committed rows of its object at its
--- SCN, and those from units and those from blocks are all of them together.
+-- A finished scan has the meaning of its SELECT: its rows are the committed rows of its object at its SCN, each as wide
+-- as the object; the answer is that over them; and those from units and those from blocks are all of them together.
 pub record HasMeaning (c : CoreState) (s : Scan) : Type 0 where
+  pub rows : s.rows ≡ table_rows (rows_at c.log s.scn) s.select.obj s.table
   pub answer : select_lines s.select s.rows ≡ answer_of (rows_at c.log s.scn) s.select s.table
   pub split : s.col + s.row ≡ row_count (rows_at c.log s.scn) s.select.obj s.table
 
