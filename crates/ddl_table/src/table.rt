@@ -9,7 +9,7 @@ use scn_queue::queue::ScnQueue;
 use std::alloc::Global;
 use std::marker::Model;
 
-/// Changes of definitions in the order of SCN, those of one SCN in the order in which they were entered.
+/// Changes of definitions sorted by SCN; an equal SCN comes behind those that were there.
 #[derive(Debug, Drop)]
 pub struct DdlTable {
     nodes: ScnQueue<DdlNode>,

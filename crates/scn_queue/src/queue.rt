@@ -9,7 +9,7 @@ use std::alloc::Global;
 use std::collections::VecDeque;
 use std::marker::Model;
 
-/// Entries in the order of their SCNs, those of one SCN in the order in which they were entered.
+/// Entries sorted by SCN; an equal SCN comes behind those that were there.
 #[derive(Debug, Drop)]
 pub struct ScnQueue<T: HasScn> {
     alloc: Global,

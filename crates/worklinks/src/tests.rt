@@ -158,5 +158,12 @@ fn collects_and_copies(rt: HostRuntime) -> Result<(), Fail> {
     assert!(rt; lists[0].txn == txn_at(0)? && lists[1].txn == txn_at(1)?);
     assert_eq!(rt; lists[0].addrs.as_slice(), [addr].as_slice());
     assert!(rt; lists[1].addrs.is_empty());
+    let one = lists[0].copy(alloc)?;
+    assert!(rt; one.txn == txn_at(0)?);
+    assert_eq!(rt; one.addrs.as_slice(), [addr].as_slice());
+    let nodes = List::from_vec(ends(alloc, 0, 6)?);
+    assert_eq!(rt; nodes.copy(alloc)?.as_slice(), nodes.as_slice());
+    let redefined = List::from_vec(changes(alloc, 2)?);
+    assert_eq!(rt; redefined.copy(alloc)?.as_slice(), redefined.as_slice());
     Ok(())
 }

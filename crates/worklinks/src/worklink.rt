@@ -10,7 +10,8 @@ use std::alloc::Global;
 /// The most items of a worklink.
 pub const WORKLINK_ITEMS: usize = 64;
 
-/// What one actor of a flush takes: 1 to 64 items, and what was collected for their transactions.
+/// What one actor of a flush takes: items, of which `chop` gives 1 to 64, and what was collected for
+/// their transactions.
 #[derive(Debug, Drop)]
 pub struct Worklink {
     pub items: ItemList,
