@@ -1,5 +1,5 @@
 -- A scan by a look that marks nothing.
-use Rattle.std.proofs.Common.{◌≡◌, ℕ, zero, suc, ◌+◌, ◌≤◌, ◌<◌, ◌%◌, Bool, true, false, ◌==◌, ◌&&◌, if◌then◌else◌, List, [], ◌∷◌, ◌++◌, map, length, filter, get_or, Option, Some, None, option_map, refl, sym, ap, ap₂, subst, ◌∙◌, arith, true≢false}
+use Rattle.std.proofs.Common.{◌≡◌, ℕ, zero, suc, ◌+◌, ◌≤◌, ◌<◌, ◌%◌, Bool, true, false, ◌==◌, ◌&&◌, if◌then◌else◌, List, [], ◌∷◌, ◌++◌, map, length, filter, get_or, Option, option_map, refl, sym, ap, ap₂, subst, ◌∙◌, arith, true≢false}
 use Rattle.std.specs.Prelude.{option_to_list, slice_get}
 use Rattle.std.specs.Int.{bit_at}
 use Rattle.std.specs.List.{filter_map, list_all, range_with_len}
@@ -11,13 +11,13 @@ use Rattle.adg_base.specs.Address.{Place}
 use Rattle.adg_base.specs.declared.value.Value.{Value}
 use Rattle.adg_model.specs.Database.{Rows}
 use Rattle.column_codec.specs.Values.{row_at}
-use Rattle.column_codec.specs.Extent.{PlacedColumns, AreColumns, extent_places, row_in}
+use Rattle.column_codec.specs.Extent.{PlacedColumns, AreColumns, row_in}
 use Rattle.column_units.specs.Unit.{marks}
 use Rattle.column_units.specs.Look.{Look}
 use Rattle.hybrid_scan.specs.declared.scan.ExtentCounts.{ExtentCounts}
 use Rattle.hybrid_scan.specs.Scan.{wide, seen, extent_rows, all_rows}
 use Rattle.hybrid_scan.specs.Progress.{is_here, nth_place, HasScanned}
-use Rattle.hybrid_scan.proofs.Places.{nth_places, places_are, places_more, length_places}
+use Rattle.hybrid_scan.proofs.Places.{nth_places, places_are, places_more}
 use Rattle.hybrid_scan.proofs.Found.{IsNext, place_if, next_first, next_more, row_here, next_most}
 use Rattle.hybrid_scan.proofs.Blocks.{filter_map_more}
 use Rattle.hybrid_scan.proofs.Handed.{length_append}

@@ -1,4 +1,4 @@
-use Rattle.std.proofs.Common.{◌≡◌, ◌<◌, length, ap, ◌∙◌, arith}
+use Rattle.std.proofs.Common.{length, ap, ◌∙◌, arith}
 use Rattle.hybrid_scan.proofs.Clear.{handed_more, handed_length}
 use Rattle.hybrid_scan.proofs.scan.add_clean.Goals as goal
 
