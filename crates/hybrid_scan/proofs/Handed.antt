@@ -25,7 +25,7 @@ use Rattle.std.proofs.lemmas.List.Elements.{filter_map-append}
 abbrev RowsOf : Type 0
 RowsOf = List (List Value)
 
-length_append : {X : Type 0} (xs ys : List X) → length (xs ++ ys) ≡ length xs + length ys
+pub length_append : {X : Type 0} (xs ys : List X) → length (xs ++ ys) ≡ length xs + length ys
 length_append [] ys = omega arith
 length_append (x ∷ xs) ys = let h = length_append xs ys in omega (arith, h)
 

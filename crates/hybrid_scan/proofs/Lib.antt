@@ -6,3 +6,4 @@ pub mod Defined
 pub mod Seen
 pub mod Looks
 pub mod Handed
+pub mod Clear

@@ -1,11 +1,12 @@
 -- The rows of an extent, of which some are taken from columns and the others from the store.
-use Rattle.std.specs.Prelude.{ℕ, if◌then◌else◌, List, map, Option, Some, None, option_map}
-use Rattle.std.specs.List.{filter_map}
+use Rattle.std.specs.Prelude.{ℕ, if◌then◌else◌, List, length, map, Option, Some, None, option_map}
+use Rattle.std.specs.List.{filter_map, range_with_len}
 use Rattle.adg_base.specs.declared.value.Value.{Value}
 use Rattle.adg_base.specs.declared.placed.PlacedRow.{PlacedRow}
 use Rattle.adg_model.specs.Database.{Rows}
 use Rattle.adg_model.specs.Query.{padded}
-use Rattle.column_codec.specs.Extent.{extent_places, row_in}
+use Rattle.column_codec.specs.Values.{row_at}
+use Rattle.column_codec.specs.Extent.{PlacedColumns, extent_places, row_in}
 use Rattle.column_units.specs.Unit.{marks}
 use Rattle.column_units.specs.Look.{Look}
 
@@ -32,3 +33,7 @@ scanned look width store obj extent = extent_rows (seen_by look width store) obj
 -- rows each as wide as the object
 abbrev pub wide_rows : ℕ → List PlacedRow → List (List Value)
 wide_rows width rows = map (λ r. padded width r.row) rows
+
+-- the rows of columns, one after another
+abbrev pub all_rows : PlacedColumns → List (List Value)
+all_rows c = map (row_at c.columns) (range_with_len 0 (length c.addresses))

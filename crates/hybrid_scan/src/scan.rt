@@ -1,9 +1,10 @@
-ghost use Rattle.std.specs.Prelude.{◌≡◌, ◌+◌, ◌<◌, ◌^◌, ◌++◌, if◌then◌else◌, length, slice_get, Some, None, option_map, option_copied, IfOk, OnOk};
+ghost use Rattle.std.specs.Prelude.{◌≡◌, ◌+◌, ◌<◌, ◌^◌, ◌++◌, ◌==◌, if◌then◌else◌, length, slice_get, Some, None, option_map, option_copied, IfOk, OnOk};
 ghost use Rattle.std.specs.Option.{ForSome};
+ghost use Rattle.std.specs.List.{list_all};
 ghost use Rattle.column_codec.specs.Values.{row_at};
 ghost use Rattle.column_codec.specs.Extent.{AreColumns, row_in};
 ghost use Rattle.hybrid_scan.specs.Reader.{StillCovers};
-ghost use Rattle.hybrid_scan.specs.Scan.{seen, scanned, wide, wide_rows, extent_rows};
+ghost use Rattle.hybrid_scan.specs.Scan.{seen, scanned, wide, wide_rows, extent_rows, all_rows};
 ghost use Rattle.hybrid_scan.specs.Progress.{is_here, nth_place, of_columns, of_blocks, HasAdded, HasScanned};
 ghost use Rattle.hybrid_scan.specs.Covers.{AreCommitted};
 
@@ -181,9 +182,61 @@ fn add_rows<S: RowSink, B: BlockReader, L: Ledger>(
     ensures still { StillCovers (B.covers reader.old) (B.covers reader.new) (B.committed reader.old) (B.committed reader.new) }
 {
     match look {
-        Some(look) => add_seen(alloc, sink, look, reader, target, steps),
+        Some(look) => add_looked(alloc, sink, look, reader, target, steps),
         None => add_stored(alloc, sink, reader, target, steps),
     }
+}
+
+/// Hands over the clean rows of a look, and the marked ones from the store, if there are any.
+fn add_looked<S: RowSink, B: BlockReader, L: Ledger>(
+    alloc: Global,
+    sink: &mut S,
+    look: &CleanRows,
+    reader: &mut B,
+    target: &Target,
+    steps: &mut Steps<L>,
+) -> Result<ExtentCounts, Memory>
+    requires covers { B.covers reader.old target.now.q }
+    requires within { target.now.extent < 256 }
+    requires columns { AreColumns target.now.obj target.now.extent look.now.columns }
+    requires room { length (S.rows sink.old) + 1024 < 2 ^ 64 }
+    ensures scanned { IfOk result (λ counts. HasScanned (extent_rows (seen look.now target.now.width (B.committed reader.old target.now.q)) target.now.obj target.now.extent) (S.rows sink.old) (S.rows sink.new) counts steps.old steps.new) }
+    ensures query { S.query sink.new ≡ S.query sink.old }
+    ensures still { StillCovers (B.covers reader.old) (B.covers reader.new) (B.committed reader.old) (B.committed reader.new) }
+{
+    if is_clear(look.marked()) {
+        let counts = add_clean(alloc, sink, look.columns())?;
+        return Ok(counts);
+    }
+    add_seen(alloc, sink, look, reader, target, steps)
+}
+
+/// Whether no address is marked.
+fn is_clear(map: &[u64; 16]) -> bool
+    ensures { result ≡ list_all (λ word. word == 0) map.now }
+{
+    map.iter().all(|word| *word == 0)
+}
+
+/// Hands over all rows of columns.
+fn add_clean<S: RowSink>(
+    alloc: Global,
+    sink: &mut S,
+    columns: &Columns,
+) -> Result<ExtentCounts, Memory>
+    requires room { length (S.rows sink.old) + length columns.now.addresses < 2 ^ 64 }
+    ensures rows { OnOk result (S.rows sink.new ≡ S.rows sink.old ++ all_rows columns.now) }
+    ensures counts { IfOk result (λ counts. counts ≡ record { from_columns = length columns.now.addresses; from_blocks = 0 }) }
+    ensures query { S.query sink.new ≡ S.query sink.old }
+{
+    let count = columns.addresses().len();
+    for place in 0..count {
+        sink.add(alloc, &columns.row(place))?;
+    }
+    Ok(ExtentCounts {
+        from_columns: count as u64,
+        from_blocks: 0,
+    })
 }
 
 /// Hands over the clean rows of a look, and the marked ones from the store.
