@@ -1,8 +1,8 @@
 -- A scan by a look that marks nothing.
-use Rattle.std.proofs.Common.{◌≡◌, ℕ, zero, suc, ◌+◌, ◌≤◌, ◌<◌, ◌%◌, Bool, true, false, ◌==◌, ◌&&◌, if◌then◌else◌, List, [], ◌∷◌, ◌++◌, map, length, filter, get_or, Option, option_map, refl, sym, ap, ap₂, subst, ◌∙◌, arith, true≢false}
+use Rattle.std.proofs.Common.{◌≡◌, ℕ, zero, suc, ◌+◌, ◌≤◌, ◌<◌, ◌%◌, Bool, true, false, ◌==◌, ◌&&◌, if◌then◌else◌, List, [], ◌∷◌, ◌++◌, map, length, filter, get_or, Option, None, option_map, refl, sym, ap, ap₂, subst, ◌∙◌, arith, true≢false}
 use Rattle.std.specs.Prelude.{option_to_list, slice_get}
 use Rattle.std.specs.Int.{bit_at}
-use Rattle.std.specs.List.{filter_map, list_all, range_with_len}
+use Rattle.std.specs.List.{filter_map, list_all, range_with_len, cons_option}
 use Rattle.std.proofs.lemmas.Bool.Decides.{nat_tests}
 use Rattle.std.proofs.lemmas.Nat.Bits.{bit_at-zero}
 use Rattle.std.proofs.lemmas.List.{append-nil, append_assoc}
@@ -11,11 +11,11 @@ use Rattle.adg_base.specs.Address.{Place}
 use Rattle.adg_base.specs.declared.value.Value.{Value}
 use Rattle.adg_model.specs.Database.{Rows}
 use Rattle.column_codec.specs.Values.{row_at}
-use Rattle.column_codec.specs.Extent.{PlacedColumns, AreColumns, row_in}
+use Rattle.column_codec.specs.Extent.{PlacedColumns, AreColumns, extent_places, row_in}
 use Rattle.column_units.specs.Unit.{marks}
 use Rattle.column_units.specs.Look.{Look}
 use Rattle.hybrid_scan.specs.declared.scan.ExtentCounts.{ExtentCounts}
-use Rattle.hybrid_scan.specs.Scan.{wide, seen, extent_rows, all_rows}
+use Rattle.hybrid_scan.specs.Scan.{wide, seen, stored, extent_rows, all_rows}
 use Rattle.hybrid_scan.specs.Progress.{is_here, nth_place, HasScanned}
 use Rattle.hybrid_scan.proofs.Places.{nth_places, places_are, places_more}
 use Rattle.hybrid_scan.proofs.Found.{IsNext, place_if, next_first, next_more, row_here, next_most}
@@ -112,9 +112,19 @@ length_all c = counted 0 (length c.addresses)
     counted k zero = refl
     counted k (suc n) = ap suc (counted (k + 1) n)
 
+no_rows : (f : Place → Option (List Value)) (xs : List Place) → ((a : Place) → f a ≡ None) → filter_map f xs ≡ []
+no_rows f [] none = refl
+no_rows f (a ∷ xs) none = ap₂ cons_option (none a) (no_rows f xs none)
+
+-- none of them is from the store
+none_stored : (look : Look) (width : ℕ) (store : Rows) (obj extent : ℕ) → list_all (λ word. word == 0) look.marked ≡ true → extent_rows (stored look width store) obj extent ≡ []
+unfolding extent_rows
+none_stored look width store obj extent clear =
+    no_rows (stored look width store) (extent_places obj extent) (λ a. ap (λ b. if b then wide width store a else None) (none_marked look.marked clear a))
+
 -- so they were handed over
 pub clear_scanned : (look : Look) (width : ℕ) (store : Rows) (obj extent : ℕ) (before after : List (List Value)) (counts : ExtentCounts) (s : ℕ) → AreColumns obj extent look.columns → list_all (λ word. word == 0) look.marked ≡ true
-    → after ≡ before ++ all_rows look.columns → counts.from_columns ≡ length look.columns.addresses → counts.from_blocks ≡ 0 → HasScanned (extent_rows (seen look width store) obj extent) before after counts s s
+    → after ≡ before ++ all_rows look.columns → counts.from_columns ≡ length look.columns.addresses → counts.from_blocks ≡ 0 → HasScanned (extent_rows (seen look width store) obj extent) (extent_rows (stored look width store) obj extent) before after counts s s
 clear_scanned look width store obj extent before after counts s are clear added columns blocks =
     let rows = clear_rows look width store obj extent are clear in
     let long = length_all look.columns in
@@ -122,6 +132,7 @@ clear_scanned look width store obj extent before after counts s are clear added 
     record {
       added = added ∙ ap (λ l. before ++ l) rows;
       count = omega (arith, longer, columns, blocks);
+      blocks = blocks ∙ sym (ap length (none_stored look width store obj extent clear));
       cost = omega (arith, blocks);
     }
 

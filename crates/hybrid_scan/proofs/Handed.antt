@@ -1,5 +1,5 @@
 -- How a scan hands over rows, step by step.
-use Rattle.std.proofs.Common.{◌≡◌, ℕ, ◌+◌, ◌*◌, ◌≤◌, Bool, true, false, if◌then◌else◌, List, [], ◌∷◌, ◌++◌, length, Option, option_map, refl, sym, ap, subst, ◌∙◌, arith, append_assoc}
+use Rattle.std.proofs.Common.{◌≡◌, ℕ, ◌+◌, ◌*◌, ◌≤◌, Bool, true, false, if◌then◌else◌, List, [], ◌∷◌, ◌++◌, length, Option, None, option_map, refl, sym, ap, subst, ◌∙◌, arith, append_assoc}
 use Rattle.std.specs.Int.{from_bool}
 use Rattle.std.specs.Prelude.{option_to_list}
 use Rattle.std.specs.List.{AllByRecursion, filter_map, flat_map, range_with_len}
@@ -15,7 +15,7 @@ use Rattle.column_units.specs.Look.{Look}
 use Rattle.hybrid_scan.specs.declared.scan.ExtentCounts.{ExtentCounts}
 use Rattle.hybrid_scan.specs.declared.scan.Origin.{Origin}
 use Rattle.hybrid_scan.specs.Reader.{placed, placed_at, StillCovers}
-use Rattle.hybrid_scan.specs.Scan.{wide, seen, wide_rows, extent_rows}
+use Rattle.hybrid_scan.specs.Scan.{wide, seen, stored, wide_rows, extent_rows}
 use Rattle.hybrid_scan.specs.Progress.{nth_place, of_columns, of_blocks, HasAdded, HasScanned}
 use Rattle.hybrid_scan.proofs.Places.{nth_places, places_are, places_more, blocks_are, blocks_more, length_places, length_block}
 use Rattle.hybrid_scan.proofs.Found.{one_if}
@@ -30,27 +30,30 @@ length_append [] ys = omega arith
 length_append (x ∷ xs) ys = let h = length_append xs ys in omega (arith, h)
 
 -- one more address
-pub scanned_more : (f : Place → Option (List Value)) (places : List Place) (a : Place) (row : Option (List Value)) (before now after : RowsOf) (counts counts' : ExtentCounts) (origin : Origin) (s0 s1 s2 : ℕ)
-    → HasScanned (filter_map f places) before now counts s0 s1 → HasAdded row now after origin s1 s2 → row ≡ f a
+pub scanned_more : (f h : Place → Option (List Value)) (places : List Place) (a : Place) (row kept : Option (List Value)) (before now after : RowsOf) (counts counts' : ExtentCounts) (origin : Origin) (s0 s1 s2 : ℕ)
+    → HasScanned (filter_map f places) (filter_map h places) before now counts s0 s1 → HasAdded row kept now after origin s1 s2 → row ≡ f a → kept ≡ h a
     → counts'.from_columns ≡ counts.from_columns + of_columns origin → counts'.from_blocks ≡ counts.from_blocks + of_blocks origin
-    → HasScanned (filter_map f (places ++ a ∷ [])) before after counts' s0 s2
-scanned_more f places a row before now after counts counts' origin s0 s1 s2 come added is columns blocks =
+    → HasScanned (filter_map f (places ++ a ∷ [])) (filter_map h (places ++ a ∷ [])) before after counts' s0 s2
+scanned_more f h places a row kept before now after counts counts' origin s0 s1 s2 come added is is_kept columns blocks =
     let more : filter_map f (places ++ a ∷ []) ≡ filter_map f places ++ option_to_list row = filter_map_more f places a ∙ ap (λ r. filter_map f places ++ option_to_list r) (sym is) in
     let long = length_append (filter_map f places) (option_to_list row) in
     let longer : length (filter_map f (places ++ a ∷ [])) ≡ length (filter_map f places) + length (option_to_list row) = ap length more ∙ long in
+    let kept_more : length (filter_map h (places ++ a ∷ [])) ≡ length (filter_map h places) + length (option_to_list kept) =
+    ap length (filter_map_more h places a ∙ ap (λ r. filter_map h places ++ option_to_list r) (sym is_kept)) ∙ length_append (filter_map h places) (option_to_list kept) in
     record {
       added = added.added ∙ ap (λ l. l ++ option_to_list row) come.added ∙ append_assoc before (filter_map f places) (option_to_list row) ∙ ap (λ l. before ++ l) (sym more);
       count = omega (arith, longer, come.count, added.count, columns, blocks);
+      blocks = omega (arith, kept_more, come.blocks, added.blocks, blocks);
       cost = omega (arith, come.cost, added.cost, blocks);
     }
 
-pub nothing_scanned : (before : RowsOf) (s : ℕ) → HasScanned [] before before (record { from_columns = 0; from_blocks = 0 }) s s
-nothing_scanned before s = record { added = sym (append-nil before); count = refl; cost = omega arith }
+pub nothing_scanned : (before : RowsOf) (s : ℕ) → HasScanned [] [] before before (record { from_columns = 0; from_blocks = 0 }) s s
+nothing_scanned before s = record { added = sym (append-nil before); count = refl; blocks = refl; cost = omega arith }
 
 -- how long the list is, and how large the counts
-pub scanned_length : (f : Place → Option (List Value)) (places : List Place) (n : ℕ) (before now : RowsOf) (counts : ExtentCounts) (s0 s1 : ℕ) → HasScanned (filter_map f places) before now counts s0 s1 → length places ≡ n
+pub scanned_length : (f : Place → Option (List Value)) (stored : RowsOf) (places : List Place) (n : ℕ) (before now : RowsOf) (counts : ExtentCounts) (s0 s1 : ℕ) → HasScanned (filter_map f places) stored before now counts s0 s1 → length places ≡ n
     → (length now ≤ length before + n) × (counts.from_columns ≤ n) × (counts.from_blocks ≤ n)
-scanned_length f places n before now counts s0 s1 come long =
+scanned_length f stored places n before now counts s0 s1 come long =
     let most = length_filter_map f places in
     let all : length now ≡ length before + length (filter_map f places) = ap length come.added ∙ length_append before (filter_map f places) in
     (omega (arith, most, all, long), omega (arith, most, come.count, long), omega (arith, most, come.count, long))
@@ -59,6 +62,9 @@ scanned_length f places n before now counts s0 s1 come long =
 pub seen_same : (look : Look) (width : ℕ) (store store' : Rows) (a : Place) → store' a ≡ store a → seen look width store' a ≡ seen look width store a
 seen_same look width store store' a same = ap (λ row. if marks look.marked a then option_map (padded width) row else row_in look.columns a) same
 
+pub stored_same : (look : Look) (width : ℕ) (store store' : Rows) (a : Place) → store' a ≡ store a → stored look width store' a ≡ stored look width store a
+stored_same look width store store' a same = ap (λ row. if marks look.marked a then option_map (padded width) row else None) same
+
 pub still_again : (C C' C'' : ℕ → Type 0) (R R' R'' : ℕ → Rows) → StillCovers C C' R R' → StillCovers C' C'' R' R'' → StillCovers C C'' R R''
 still_again C C' C'' R R' R'' h k q c =
     let first = h q c in
@@ -66,17 +72,17 @@ still_again C C' C'' R R' R'' h k q c =
     (second.0, λ a. second.1 a ∙ first.1 a)
 
 -- all addresses of the extent
-pub all_scanned : (f : Place → Option (List Value)) (obj extent n : ℕ) (before now : RowsOf) (counts : ExtentCounts) (s0 s1 : ℕ) → n ≡ 1024 → HasScanned (filter_map f (nth_places obj extent n)) before now counts s0 s1
-    → HasScanned (extent_rows f obj extent) before now counts s0 s1
+pub all_scanned : (f h : Place → Option (List Value)) (obj extent n : ℕ) (before now : RowsOf) (counts : ExtentCounts) (s0 s1 : ℕ) → n ≡ 1024 → HasScanned (filter_map f (nth_places obj extent n)) (filter_map h (nth_places obj extent n)) before now counts s0 s1
+    → HasScanned (extent_rows f obj extent) (extent_rows h obj extent) before now counts s0 s1
 unfolding extent_rows
-all_scanned f obj extent n before now counts s0 s1 whole come =
-    subst (λ places. HasScanned (filter_map f places) before now counts s0 s1) (ap (nth_places obj extent) whole ∙ sym (places_are obj extent)) come
+all_scanned f h obj extent n before now counts s0 s1 whole come =
+    subst (λ places. HasScanned (filter_map f places) (filter_map h places) before now counts s0 s1) (ap (nth_places obj extent) whole ∙ sym (places_are obj extent)) come
 
-pub all_blocks : (f : Place → Option (List Value)) (obj extent n : ℕ) (before now : RowsOf) (counts : ExtentCounts) (s0 s1 : ℕ) → n ≡ 16 → HasScanned (filter_map f (flat_map (block_places obj) (range_with_len (16 * extent) n))) before now counts s0 s1
-    → HasScanned (extent_rows f obj extent) before now counts s0 s1
+pub all_blocks : (f : Place → Option (List Value)) (obj extent n : ℕ) (before now : RowsOf) (counts : ExtentCounts) (s0 s1 : ℕ) → n ≡ 16 → HasScanned (filter_map f (flat_map (block_places obj) (range_with_len (16 * extent) n))) (filter_map f (flat_map (block_places obj) (range_with_len (16 * extent) n))) before now counts s0 s1
+    → HasScanned (extent_rows f obj extent) (extent_rows f obj extent) before now counts s0 s1
 unfolding extent_rows
 all_blocks f obj extent n before now counts s0 s1 whole come =
-    subst (λ k. HasScanned (filter_map f (flat_map (block_places obj) (range_with_len (16 * extent) k))) before now counts s0 s1) whole come
+    subst (λ k. HasScanned (filter_map f (flat_map (block_places obj) (range_with_len (16 * extent) k))) (filter_map f (flat_map (block_places obj) (range_with_len (16 * extent) k))) before now counts s0 s1) whole come
 
 abbrev pub first_blocks : ℕ → ℕ → ℕ → List Place
 first_blocks obj extent n = flat_map (block_places obj) (range_with_len (16 * extent) n)
@@ -96,9 +102,9 @@ length_placed store obj block =
 
 -- one more block
 pub block_more : (width : ℕ) (store store' : Rows) (obj extent n : ℕ) (rows : List PlacedRow) (before now after : RowsOf) (counts : ExtentCounts) (s0 s1 s2 : ℕ)
-    → HasScanned (filter_map (wide width store) (first_blocks obj extent n)) before now counts s0 s1 → ((a : Place) → store' a ≡ store a)
+    → HasScanned (filter_map (wide width store) (first_blocks obj extent n)) (filter_map (wide width store) (first_blocks obj extent n)) before now counts s0 s1 → ((a : Place) → store' a ≡ store a)
     → rows ≡ placed store' (block_places obj (16 * extent + n)) → after ≡ now ++ wide_rows width rows → s2 ≡ s1 + length rows
-    → HasScanned (filter_map (wide width store) (first_blocks obj extent (n + 1))) before after (record counts { from_blocks = counts.from_blocks + length rows }) s0 s2
+    → HasScanned (filter_map (wide width store) (first_blocks obj extent (n + 1))) (filter_map (wide width store) (first_blocks obj extent (n + 1))) before after (record counts { from_blocks = counts.from_blocks + length rows }) s0 s2
 block_more width store store' obj extent n rows before now after counts s0 s1 s2 come same is added cost =
     let f = wide width store in
     let block = block_places obj (16 * extent + n) in
@@ -111,19 +117,20 @@ block_more width store store' obj extent n rows before now after counts s0 s1 s2
     record {
       added = added ∙ ap (λ l. l ++ wide_rows width rows) come.added ∙ append_assoc before (filter_map f (first_blocks obj extent n)) (wide_rows width rows) ∙ ap (λ l. before ++ l) (sym more);
       count = omega (arith, longer, as_long, come.count);
+      blocks = omega (arith, longer, as_long, come.blocks);
       cost = omega (arith, come.cost, cost);
     }
 
 -- the rows of a block as they were counted
 pub with_length : (f : Place → Option (List Value)) (obj extent n : ℕ) (before after : RowsOf) (counts : ExtentCounts) (s0 s1 long counted : ℕ) → counted ≡ long
-    → HasScanned (filter_map f (first_blocks obj extent n)) before after (record counts { from_blocks = counts.from_blocks + long }) s0 s1
-    → HasScanned (filter_map f (first_blocks obj extent n)) before after (record counts { from_blocks = counts.from_blocks + counted }) s0 s1
+    → HasScanned (filter_map f (first_blocks obj extent n)) (filter_map f (first_blocks obj extent n)) before after (record counts { from_blocks = counts.from_blocks + long }) s0 s1
+    → HasScanned (filter_map f (first_blocks obj extent n)) (filter_map f (first_blocks obj extent n)) before after (record counts { from_blocks = counts.from_blocks + counted }) s0 s1
 with_length f obj extent n before after counts s0 s1 long counted is come =
-    subst (λ k. HasScanned (filter_map f (first_blocks obj extent n)) before after (record counts { from_blocks = counts.from_blocks + k }) s0 s1) (sym is) come
+    subst (λ k. HasScanned (filter_map f (first_blocks obj extent n)) (filter_map f (first_blocks obj extent n)) before after (record counts { from_blocks = counts.from_blocks + k }) s0 s1) (sym is) come
 
-pub more_places : (f : Place → Option (List Value)) (obj extent n : ℕ) (before after : RowsOf) (counts : ExtentCounts) (s0 s1 : ℕ) → HasScanned (filter_map f (nth_places obj extent n ++ nth_place obj extent n ∷ [])) before after counts s0 s1
-    → HasScanned (filter_map f (nth_places obj extent (n + 1))) before after counts s0 s1
-more_places f obj extent n before after counts s0 s1 come = subst (λ places. HasScanned (filter_map f places) before after counts s0 s1) (sym (places_more obj extent n)) come
+pub more_places : (f h : Place → Option (List Value)) (obj extent n : ℕ) (before after : RowsOf) (counts : ExtentCounts) (s0 s1 : ℕ) → HasScanned (filter_map f (nth_places obj extent n ++ nth_place obj extent n ∷ [])) (filter_map h (nth_places obj extent n ++ nth_place obj extent n ∷ [])) before after counts s0 s1
+    → HasScanned (filter_map f (nth_places obj extent (n + 1))) (filter_map h (nth_places obj extent (n + 1))) before after counts s0 s1
+more_places f h obj extent n before after counts s0 s1 come = subst (λ places. HasScanned (filter_map f places) (filter_map h places) before after counts s0 s1) (sym (places_more obj extent n)) come
 
 pub one_most : (b : Bool) → one_if b ≤ 1
 one_most true = omega arith

@@ -26,14 +26,16 @@ of_blocks Nowhere = 0
 of_blocks Columns = 0
 of_blocks Blocks = 1
 
--- a row was handed over, if there is one, and a step was counted if it is from the store
-pub record HasAdded (row : Option (List Value)) (before after : List (List Value)) (origin : Origin) (steps steps' : ℕ) : Type 0 where
+-- a row was handed over, if there is one, and counted, with a step, as one of the store if the store gave it
+pub record HasAdded (row stored : Option (List Value)) (before after : List (List Value)) (origin : Origin) (steps steps' : ℕ) : Type 0 where
   pub added : after ≡ before ++ option_to_list row
   pub count : of_columns origin + of_blocks origin ≡ length (option_to_list row)
+  pub blocks : of_blocks origin ≡ length (option_to_list stored)
   pub cost : steps' ≡ steps + of_blocks origin
 
--- rows were handed over and counted, and a step for each that is from the store
-pub record HasScanned (all before after : List (List Value)) (counts : ExtentCounts) (steps steps' : ℕ) : Type 0 where
+-- rows were handed over and counted, with a step for each that the store gave
+pub record HasScanned (all stored before after : List (List Value)) (counts : ExtentCounts) (steps steps' : ℕ) : Type 0 where
   pub added : after ≡ before ++ all
   pub count : counts.from_columns + counts.from_blocks ≡ length all
+  pub blocks : counts.from_blocks ≡ length stored
   pub cost : steps' ≡ steps + counts.from_blocks

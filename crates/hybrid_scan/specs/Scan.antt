@@ -23,12 +23,25 @@ abbrev pub seen_by : Option Look → ℕ → Rows → Rows
 seen_by None width store = wide width store
 seen_by (Some look) width store = seen look width store
 
+-- the row at an address that comes from the store: where it is marked, that of the store, else none
+abbrev pub stored : Look → ℕ → Rows → Rows
+stored look width store a = if marks look.marked a then wide width store a else None
+
+-- without a look, all rows come from the store
+abbrev pub stored_by : Option Look → ℕ → Rows → Rows
+stored_by None width store = wide width store
+stored_by (Some look) width store = stored look width store
+
 -- the rows of an extent, in the order of their addresses
 unfoldable pub extent_rows : Rows → ℕ → ℕ → List (List Value)
 extent_rows rows obj extent = filter_map rows (extent_places obj extent)
 
 abbrev pub scanned : Option Look → ℕ → Rows → ℕ → ℕ → List (List Value)
 scanned look width store obj extent = extent_rows (seen_by look width store) obj extent
+
+-- those of the rows of an extent that come from the store
+abbrev pub from_store : Option Look → ℕ → Rows → ℕ → ℕ → List (List Value)
+from_store look width store obj extent = extent_rows (stored_by look width store) obj extent
 
 -- rows each as wide as the object
 abbrev pub wide_rows : ℕ → List PlacedRow → List (List Value)

@@ -4,7 +4,7 @@ ghost use Rattle.std.specs.List.{list_all};
 ghost use Rattle.column_codec.specs.Values.{row_at};
 ghost use Rattle.column_codec.specs.Extent.{AreColumns, row_in};
 ghost use Rattle.hybrid_scan.specs.Reader.{StillCovers};
-ghost use Rattle.hybrid_scan.specs.Scan.{seen, scanned, wide, wide_rows, extent_rows, all_rows};
+ghost use Rattle.hybrid_scan.specs.Scan.{seen, scanned, stored, from_store, wide, wide_rows, extent_rows, all_rows};
 ghost use Rattle.hybrid_scan.specs.Progress.{is_here, nth_place, of_columns, of_blocks, HasAdded, HasScanned};
 ghost use Rattle.hybrid_scan.specs.Covers.{AreCommitted};
 
@@ -101,6 +101,7 @@ pub fn scan_extent<B: BlockReader, L: Ledger>(
     ensures scanned { IfOk result (λ s. s.rows ≡ scanned (option_copied look.entry) def.now.width (B.committed reader.old q) def.now.obj extent) }
     ensures committed { IfOk result (λ s. AreCommitted s.rows (option_copied look.entry) def.now.width (B.committed reader.old q) def.now.obj extent q) }
     ensures count { IfOk result (λ s. s.from_columns + s.from_blocks ≡ length s.rows) }
+    ensures blocks { IfOk result (λ s. s.from_blocks ≡ length (from_store (option_copied look.entry) def.now.width (B.committed reader.old q) def.now.obj extent)) }
     ensures cost { IfOk result (λ s. steps.new ≡ steps.old + s.from_blocks) }
     ensures still { StillCovers (B.covers reader.old) (B.covers reader.new) (B.committed reader.old) (B.committed reader.new) }
 {
@@ -133,6 +134,7 @@ pub fn add_extent<B: BlockReader, L: Ledger>(
     ensures scanned { OnOk result (accumulator.new.rows ≡ accumulator.old.rows ++ scanned (option_copied look.entry) def.now.width (B.committed reader.old q) def.now.obj extent) }
     ensures committed { AreCommitted (scanned (option_copied look.entry) def.now.width (B.committed reader.old q) def.now.obj extent) (option_copied look.entry) def.now.width (B.committed reader.old q) def.now.obj extent q }
     ensures count { IfOk result (λ counts. counts.from_columns + counts.from_blocks ≡ length (scanned (option_copied look.entry) def.now.width (B.committed reader.old q) def.now.obj extent)) }
+    ensures blocks { IfOk result (λ counts. counts.from_blocks ≡ length (from_store (option_copied look.entry) def.now.width (B.committed reader.old q) def.now.obj extent)) }
     ensures cost { IfOk result (λ counts. steps.new ≡ steps.old + counts.from_blocks) }
     ensures still { StillCovers (B.covers reader.old) (B.covers reader.new) (B.committed reader.old) (B.committed reader.new) }
 {
@@ -177,7 +179,7 @@ fn add_rows<S: RowSink, B: BlockReader, L: Ledger>(
     requires within { target.now.extent < 256 }
     requires columns { ForSome (option_copied look) (λ look. AreColumns target.now.obj target.now.extent look.columns) }
     requires room { length (S.rows sink.old) + 1024 < 2 ^ 64 }
-    ensures scanned { IfOk result (λ counts. HasScanned (scanned (option_copied look.entry) target.now.width (B.committed reader.old target.now.q) target.now.obj target.now.extent) (S.rows sink.old) (S.rows sink.new) counts steps.old steps.new) }
+    ensures scanned { IfOk result (λ counts. HasScanned (scanned (option_copied look.entry) target.now.width (B.committed reader.old target.now.q) target.now.obj target.now.extent) (from_store (option_copied look.entry) target.now.width (B.committed reader.old target.now.q) target.now.obj target.now.extent) (S.rows sink.old) (S.rows sink.new) counts steps.old steps.new) }
     ensures query { S.query sink.new ≡ S.query sink.old }
     ensures still { StillCovers (B.covers reader.old) (B.covers reader.new) (B.committed reader.old) (B.committed reader.new) }
 {
@@ -200,7 +202,7 @@ fn add_looked<S: RowSink, B: BlockReader, L: Ledger>(
     requires within { target.now.extent < 256 }
     requires columns { AreColumns target.now.obj target.now.extent look.now.columns }
     requires room { length (S.rows sink.old) + 1024 < 2 ^ 64 }
-    ensures scanned { IfOk result (λ counts. HasScanned (extent_rows (seen look.now target.now.width (B.committed reader.old target.now.q)) target.now.obj target.now.extent) (S.rows sink.old) (S.rows sink.new) counts steps.old steps.new) }
+    ensures scanned { IfOk result (λ counts. HasScanned (extent_rows (seen look.now target.now.width (B.committed reader.old target.now.q)) target.now.obj target.now.extent) (extent_rows (stored look.now target.now.width (B.committed reader.old target.now.q)) target.now.obj target.now.extent) (S.rows sink.old) (S.rows sink.new) counts steps.old steps.new) }
     ensures query { S.query sink.new ≡ S.query sink.old }
     ensures still { StillCovers (B.covers reader.old) (B.covers reader.new) (B.committed reader.old) (B.committed reader.new) }
 {
@@ -252,7 +254,7 @@ fn add_seen<S: RowSink, B: BlockReader, L: Ledger>(
     requires within { target.now.extent < 256 }
     requires columns { AreColumns target.now.obj target.now.extent look.now.columns }
     requires room { length (S.rows sink.old) + 1024 < 2 ^ 64 }
-    ensures scanned { IfOk result (λ counts. HasScanned (extent_rows (seen look.now target.now.width (B.committed reader.old target.now.q)) target.now.obj target.now.extent) (S.rows sink.old) (S.rows sink.new) counts steps.old steps.new) }
+    ensures scanned { IfOk result (λ counts. HasScanned (extent_rows (seen look.now target.now.width (B.committed reader.old target.now.q)) target.now.obj target.now.extent) (extent_rows (stored look.now target.now.width (B.committed reader.old target.now.q)) target.now.obj target.now.extent) (S.rows sink.old) (S.rows sink.new) counts steps.old steps.new) }
     ensures query { S.query sink.new ≡ S.query sink.old }
     ensures still { StillCovers (B.covers reader.old) (B.covers reader.new) (B.committed reader.old) (B.committed reader.new) }
 {
@@ -292,7 +294,7 @@ fn add_row<S: RowSink, B: BlockReader, L: Ledger>(
     requires covers { B.covers reader.old target.now.q }
     requires place { row_in look.now.columns addr ≡ option_map (row_at look.now.columns.columns) place }
     requires room { length (S.rows sink.old) + 1 < 2 ^ 64 }
-    ensures added { IfOk result (λ origin. HasAdded (seen look.now target.now.width (B.committed reader.old target.now.q) addr) (S.rows sink.old) (S.rows sink.new) origin steps.old steps.new) }
+    ensures added { IfOk result (λ origin. HasAdded (seen look.now target.now.width (B.committed reader.old target.now.q) addr) (stored look.now target.now.width (B.committed reader.old target.now.q) addr) (S.rows sink.old) (S.rows sink.new) origin steps.old steps.new) }
     ensures query { S.query sink.new ≡ S.query sink.old }
     ensures still { StillCovers (B.covers reader.old) (B.covers reader.new) (B.committed reader.old) (B.committed reader.new) }
 {
@@ -319,7 +321,7 @@ fn add_stored_row<S: RowSink, B: BlockReader, L: Ledger>(
 ) -> Result<Origin, Memory>
     requires covers { B.covers reader.old target.now.q }
     requires room { length (S.rows sink.old) + 1 < 2 ^ 64 }
-    ensures added { IfOk result (λ origin. HasAdded (wide target.now.width (B.committed reader.old target.now.q) addr) (S.rows sink.old) (S.rows sink.new) origin steps.old steps.new) }
+    ensures added { IfOk result (λ origin. HasAdded (wide target.now.width (B.committed reader.old target.now.q) addr) (wide target.now.width (B.committed reader.old target.now.q) addr) (S.rows sink.old) (S.rows sink.new) origin steps.old steps.new) }
     ensures query { S.query sink.new ≡ S.query sink.old }
     ensures still { StillCovers (B.covers reader.old) (B.covers reader.new) (B.committed reader.old) (B.committed reader.new) }
 {
@@ -344,7 +346,7 @@ fn add_stored<S: RowSink, B: BlockReader, L: Ledger>(
     requires covers { B.covers reader.old target.now.q }
     requires within { target.now.extent < 256 }
     requires room { length (S.rows sink.old) + 1024 < 2 ^ 64 }
-    ensures scanned { IfOk result (λ counts. HasScanned (extent_rows (wide target.now.width (B.committed reader.old target.now.q)) target.now.obj target.now.extent) (S.rows sink.old) (S.rows sink.new) counts steps.old steps.new) }
+    ensures scanned { IfOk result (λ counts. HasScanned (extent_rows (wide target.now.width (B.committed reader.old target.now.q)) target.now.obj target.now.extent) (extent_rows (wide target.now.width (B.committed reader.old target.now.q)) target.now.obj target.now.extent) (S.rows sink.old) (S.rows sink.new) counts steps.old steps.new) }
     ensures query { S.query sink.new ≡ S.query sink.old }
     ensures still { StillCovers (B.covers reader.old) (B.covers reader.new) (B.committed reader.old) (B.committed reader.new) }
 {

@@ -1,7 +1,7 @@
 use Rattle.std.proofs.Common.{◌≡◌}
 use Rattle.std.specs.List.{filter_map}
 use Rattle.hybrid_scan.specs.Reader.{StillCovers}
-use Rattle.hybrid_scan.specs.Scan.{seen}
+use Rattle.hybrid_scan.specs.Scan.{seen, stored}
 use Rattle.hybrid_scan.specs.Progress.{HasScanned}
 use Rattle.hybrid_scan.proofs.Places.{nth_places}
 use Rattle.hybrid_scan.proofs.Found.{IsNext}
@@ -11,6 +11,7 @@ use Rattle.hybrid_scan.proofs.scan.add_seen.Given as goal
 abbrev pub invariant-loop-index : goal.invariant-loop-index
 invariant-loop-index g l = record {
   come : HasScanned (filter_map (seen l.look l.target.width (g.B.BlockReader.committed l.initial.reader l.target.q)) (nth_places l.target.obj l.target.extent l.index))
+      (filter_map (stored l.look l.target.width (g.B.BlockReader.committed l.initial.reader l.target.q)) (nth_places l.target.obj l.target.extent l.index))
       (g.S.RowSink.rows l.initial.sink) (g.S.RowSink.rows l.sink) l.counts l.initial.steps l.steps;
   next : IsNext l.target.obj l.target.extent l.look.columns.addresses l.index l.next;
   query : g.S.RowSink.query l.sink ≡ g.S.RowSink.query l.initial.sink;

@@ -9,7 +9,7 @@ pub add_wide-requires : goal.add_wide-requires
 add_wide-requires g c =
     let t = c.args.target.now in
     let i = c.loop-index.index in
-    let l = scanned_length (wide t.width (g.B.BlockReader.committed c.args.reader.now t.q)) (first_blocks t.obj t.extent i) (64 * i) (g.S.RowSink.rows c.args.sink.now) (g.S.RowSink.rows c.loop-index.sink) c.loop-index.counts c.args.steps.now c.loop-index.steps
+    let l = scanned_length (wide t.width (g.B.BlockReader.committed c.args.reader.now t.q)) _ (first_blocks t.obj t.extent i) (64 * i) (g.S.RowSink.rows c.args.sink.now) (g.S.RowSink.rows c.loop-index.sink) c.loop-index.counts c.args.steps.now c.loop-index.steps
     c.loop-index.invariant.come (length_blocks t.obj t.extent i) in
     let few = length_placed (g.B.BlockReader.committed c.loop-index.reader t.q) t.obj (t.extent * 16 + i) in
     let same = ap length (c.as_slice.ensures ∙ c.in_ok-rows.ensures.rows) in
@@ -19,7 +19,7 @@ pub overflow_add-counts : goal.overflow_add-counts
 overflow_add-counts g c =
     let t = c.args.target.now in
     let i = c.loop-index.index in
-    let l = scanned_length (wide t.width (g.B.BlockReader.committed c.args.reader.now t.q)) (first_blocks t.obj t.extent i) (64 * i) (g.S.RowSink.rows c.args.sink.now) (g.S.RowSink.rows c.loop-index.sink) c.loop-index.counts c.args.steps.now c.loop-index.steps
+    let l = scanned_length (wide t.width (g.B.BlockReader.committed c.args.reader.now t.q)) _ (first_blocks t.obj t.extent i) (64 * i) (g.S.RowSink.rows c.args.sink.now) (g.S.RowSink.rows c.loop-index.sink) c.loop-index.counts c.args.steps.now c.loop-index.steps
     c.loop-index.invariant.come (length_blocks t.obj t.extent i) in
     let few = length_placed (g.B.BlockReader.committed c.loop-index.reader t.q) t.obj (t.extent * 16 + i) in
     let same = c.len.ensures ∙ ap length c.in_ok-rows.ensures.rows in
