@@ -7,3 +7,4 @@ pub mod Seen
 pub mod Looks
 pub mod Handed
 pub mod Clear
+pub mod Tested

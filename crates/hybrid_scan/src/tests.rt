@@ -3,10 +3,11 @@ ghost use Rattle.std.specs.Option.{ForSome};
 ghost use Rattle.column_codec.specs.Extent.{AreColumns};
 ghost use Rattle.column_units.specs.Unit.{FitState};
 ghost use Rattle.row_blocks.specs.Shards.{shards_in, row_in};
+ghost use Rattle.hybrid_scan.specs.Reader.{AreServing};
 
 use crate::reader::BlockReader;
 use crate::scan::{ExtentCounts, add_extent, scan_extent};
-use crate::shard_reader::{block_rows, row_copy};
+use crate::shard_reader::{ShardReader, block_rows, row_copy};
 use adg_base::address::Addr;
 use adg_base::answer::Cell;
 use adg_base::command::{Aggregate, Select, What};
@@ -64,17 +65,18 @@ impl BlockReader for TestStore<'_> {
     }
 }
 
-/// What a transaction does: at a block and a slot of t1, or at its end.
+/// What a transaction does: at a block and a slot of t1, or at its end. Or t1 gets a column.
 #[derive(Clone, Copy)]
 enum Deed {
     Put(u16, u8, i64),
     Delete(u16, u8),
     Commit,
+    Widen,
 }
 
-use Deed::{Commit, Delete, Put};
+use Deed::{Commit, Delete, Put, Widen};
 
-static LOG: [(u64, u64, Deed); 13] = [
+static LOG: [(u64, u64, Deed); 14] = [
     (11, 7, Put(0, 0, 1)),
     (11, 7, Put(0, 1, 2)),
     (11, 7, Commit),
@@ -88,6 +90,7 @@ static LOG: [(u64, u64, Deed); 13] = [
     (15, 11, Commit),
     (16, 12, Delete(0, 0)),
     (16, 12, Commit),
+    (17, 13, Widen),
 ];
 
 fn vector(alloc: Global, obj: Obj, txn: u64, deed: Deed) -> Result<Vector, Fail> {
@@ -107,6 +110,10 @@ fn vector(alloc: Global, obj: Obj, txn: u64, deed: Deed) -> Result<Vector, Fail>
             slot,
         },
         Commit => Vector::Commit { txn, flag: true },
+        Widen => Vector::AddColumn {
+            obj,
+            kind: ColKind::Int,
+        },
     })
 }
 
@@ -144,21 +151,51 @@ fn two_rows(alloc: Global, obj: Obj) -> Result<Columns, Fail>
     Ok(Columns::new(alloc, List::from_vec(addresses), List::from_vec(columns))?)
 }
 
-/// A scan at an SCN, through a look with marks in the first and in the last block or without one, of an
-/// object so wide; the numbers of its rows, and how many came from columns and from blocks.
+/// Its rows as of 17, when a column was added: 5 at t1.0.1 and 7 at t1.15.63.
+fn two_wide_rows(alloc: Global, obj: Obj) -> Result<Columns, Fail>
+    requires { obj ≡ 1 }
+    ensures { IfOk result (AreColumns obj 0) }
+{
+    let first = Addr::new(obj, 0, 1).ok_or("addr")?;
+    let last = Addr::new(obj, 15, 63).ok_or("addr")?;
+    let addresses = vec![in alloc; first, last]?;
+    let values = vec![in alloc; Value::Int(5), Value::Int(7)]?;
+    let nulls = vec![in alloc; Value::Null, Value::Null]?;
+    let columns = vec![in alloc;
+        Column::from_vec(alloc, values)?,
+        Column::from_vec(alloc, nulls)?,
+    ]?;
+    Ok(Columns::new(alloc, List::from_vec(addresses), List::from_vec(columns))?)
+}
+
+/// The rows of the first extent in a unit that was built at an SCN.
+fn rows_at(alloc: Global, obj: Obj, built: u64) -> Result<Columns, Fail>
+    requires { obj ≡ 1 }
+    ensures { IfOk result (AreColumns obj 0) }
+{
+    if built == 17 {
+        return two_wide_rows(alloc, obj);
+    }
+    two_rows(alloc, obj)
+}
+
+/// A scan at an SCN, through a look at a unit built at another, with marks in the first and in the last block, or
+/// without a look, of an object so wide; the numbers of its rows, and how many came from columns and from blocks.
 struct Case {
     name: &'static str,
     q: u64,
+    built: u64,
     marks: Option<(u64, u64)>,
     width: u8,
     numbers: &'static [i64],
     counts: (u64, u64),
 }
 
-static CASES: [Case; 8] = [
+static CASES: [Case; 11] = [
     Case {
         name: "as built",
         q: 11,
+        built: 11,
         marks: Some((0, 0)),
         width: 1,
         numbers: &[1, 2],
@@ -167,6 +204,7 @@ static CASES: [Case; 8] = [
     Case {
         name: "a commit at 12",
         q: 12,
+        built: 11,
         marks: Some((2, 0)),
         width: 1,
         numbers: &[1, 9],
@@ -175,6 +213,7 @@ static CASES: [Case; 8] = [
     Case {
         name: "deleted",
         q: 13,
+        built: 11,
         marks: Some((2, 0)),
         width: 1,
         numbers: &[1],
@@ -183,6 +222,7 @@ static CASES: [Case; 8] = [
     Case {
         name: "put again",
         q: 14,
+        built: 11,
         marks: Some((2, 0)),
         width: 1,
         numbers: &[1, 5],
@@ -191,6 +231,7 @@ static CASES: [Case; 8] = [
     Case {
         name: "the last address, which is not in the unit",
         q: 15,
+        built: 11,
         marks: Some((2, 1 << 63)),
         width: 1,
         numbers: &[1, 5, 7],
@@ -199,6 +240,7 @@ static CASES: [Case; 8] = [
     Case {
         name: "the first address deleted",
         q: 16,
+        built: 11,
         marks: Some((3, 1 << 63)),
         width: 1,
         numbers: &[5, 7],
@@ -207,6 +249,7 @@ static CASES: [Case; 8] = [
     Case {
         name: "before a column was added",
         q: 16,
+        built: 11,
         marks: None,
         width: 1,
         numbers: &[5, 7],
@@ -215,10 +258,38 @@ static CASES: [Case; 8] = [
     Case {
         name: "after a column was added",
         q: 16,
+        built: 11,
         marks: None,
         width: 2,
         numbers: &[5, 7],
         counts: (0, 2),
+    },
+    Case {
+        name: "a mark where nothing was put",
+        q: 12,
+        built: 11,
+        marks: Some((2 | 1 << 5, 0)),
+        width: 1,
+        numbers: &[1, 9],
+        counts: (1, 1),
+    },
+    Case {
+        name: "built after a column was added",
+        q: 17,
+        built: 17,
+        marks: Some((0, 0)),
+        width: 2,
+        numbers: &[5, 7],
+        counts: (2, 0),
+    },
+    Case {
+        name: "a short row of the store among wide ones of columns",
+        q: 17,
+        built: 17,
+        marks: Some((2, 0)),
+        width: 2,
+        numbers: &[5, 7],
+        counts: (1, 1),
     },
 ];
 
@@ -230,11 +301,12 @@ fn look_at(unit: &Unit, q: Scn) -> Result<Option<CleanRows>, Fail>
     Ok(unit.clean_rows(q)?)
 }
 
-/// What a scan at an SCN may take from the unit with these marks.
+/// What a scan at an SCN may take from the unit that was built at another, with these marks.
 fn look_of(
     alloc: Global,
     obj: Obj,
     q: Scn,
+    built: u64,
     marks: Option<(u64, u64)>,
 ) -> Result<Option<CleanRows>, Fail>
     requires { obj ≡ 1 }
@@ -249,9 +321,9 @@ fn look_of(
     let unit = Unit {
         obj,
         extent: 0,
-        snapshot: Scn::new(11).ok_or("scn")?,
+        snapshot: Scn::new(built).ok_or("scn")?,
         ticket: 1,
-        state: UnitState::Ready(two_rows(alloc, obj)?),
+        state: UnitState::Ready(rows_at(alloc, obj, built)?),
         map,
         all: false,
     };
@@ -338,7 +410,7 @@ fn assert_case<L: Ledger>(
     let q = Scn::new(case.q).ok_or("scn")?;
     let def = definition(obj, case.width);
     let (from_columns, from_blocks) = case.counts;
-    let look = look_of(alloc, obj, q, case.marks)?;
+    let look = look_of(alloc, obj, q, case.built, case.marks)?;
     let mut store = TestStore { alloc, shards };
     let scanned = scan_extent(alloc, look.as_ref(), &mut store, &def, 0, q, steps)?;
     assert_rows(rt, case, &scanned.rows)?;
@@ -385,4 +457,41 @@ fn assert_cases<L: Ledger>(rt: &impl Abort, alloc: Global, blank: Blank) -> Resu
 #[test]
 fn scans_are_the_committed_rows(rt: HostRuntime) -> Result<(), Fail> {
     assert_cases::<Brand>(&rt, rt.alloc(), Blank::new(1))
+}
+
+/// Shards that serve an SCN and to which nothing was applied give no row.
+fn assert_no_rows<L: Ledger>(
+    rt: &impl Abort,
+    alloc: Global,
+    shards: &[Shard],
+    q: Scn,
+    steps: &mut Steps<L>,
+) -> Result<(), Fail>
+    requires { AreServing shards.now q }
+{
+    let obj = Obj::new(1).ok_or("obj")?;
+    let addr = Addr::new(obj, 0, 0).ok_or("addr")?;
+    let mut reader = ShardReader::new(alloc, shards);
+    let rows = reader.rows(obj, 0, q, steps)?;
+    assert!(rt; rows.is_empty());
+    let row = reader.row(addr, q, steps)?;
+    assert!(rt; row.is_none());
+    Ok(())
+}
+
+fn assert_new_shards<L: Ledger>(rt: &impl Abort, alloc: Global, blank: Blank) -> Result<(), Fail>
+    requires name { blank.name ≡ L.name }
+    requires parts { blank.parts ≡ L.parts }
+    requires shared { 0 < L.parts }
+{
+    let q = Scn::new(7).ok_or("scn")?;
+    let mut steps = Steps::<L>::of(blank);
+    let shards = new_shards(alloc)?;
+    assert_no_rows(rt, alloc, &shards, q, &mut steps)
+}
+
+/// The shards themselves as a store.
+#[test]
+fn new_shards_have_no_rows(rt: HostRuntime) -> Result<(), Fail> {
+    assert_new_shards::<Brand>(&rt, rt.alloc(), Blank::new(1))
 }
