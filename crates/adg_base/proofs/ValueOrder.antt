@@ -1,13 +1,14 @@
 -- The laws of the order of values, and when two lists of keys in order are the same.
 use Rattle.std.proofs.Common.{◌≡◌, Bool, true, false, ◌||◌, List, [], ◌∷◌, refl, sym, ap, ap₂, ◌∙◌, subst, true≢false}
-use Rattle.std.specs.Cmp.{IsTotalOrder, IsEquivalence}
+use Rattle.std.specs.Cmp.{IsTotalOrder, IsEquivalence, IsStrictWeakOrder}
 use Rattle.std.specs.FinMap.{int_cmp-IsAntisymmetric, nat_cmp-IsAntisymmetric, slice_cmp-IsAntisymmetric}
 use Rattle.std.specs.List.{AllByRecursion, list_any}
 use Rattle.std.specs.List.Sorted.{IsStrictlySortedBy}
-use Rattle.std.specs.Ordering.{is_eq, ordering_reverse}
+use Rattle.std.specs.Ordering.{is_eq, is_lt, is_gt, ordering_reverse}
 use Rattle.std.specs.declared.cmp.Ordering.{Ordering}
 use Rattle.std.specs.declared.cmp.Ordering.TheVariants.{Less, Equal, Greater}
 use Rattle.std.proofs.lemmas.Cmp.{int_cmp_total, nat_list_cmp_total, eq_by_cmp_equiv, tied_itself}
+use Rattle.std.proofs.lemmas.List.Sorted.{ranks_by}
 use Rattle.std.proofs.lemmas.Map.Keys.{sorted_head, sorted_tail}
 use Rattle.adg_base.specs.declared.value.Value.{Value}
 use Rattle.adg_base.specs.declared.value.Value.TheVariants.{Null, Int, Text}
@@ -55,6 +56,27 @@ tied (Text a) (Text b) e = ap Text (slice_cmp-IsAntisymmetric nat_cmp-IsAntisymm
 
 pub value_cmp_total : IsTotalOrder value_cmp
 value_cmp_total = record { antisymm = flips; trans = chains; congr = λ x y z e. ap (λ v. value_cmp v z) (tied x y e) }
+
+-- what is better than another by how they compare is an order of its own
+abbrev pub IsChoice : (Ordering → Bool) → Type 0
+IsChoice better = IsStrictWeakOrder (λ w v. better (value_cmp w v))
+
+pub least_is_choice : IsChoice is_lt
+least_is_choice = ranks_by value_cmp_total (λ v. v)
+
+gt_of_reverse : (o : Ordering) → is_gt (ordering_reverse o) ≡ is_lt o
+gt_of_reverse Less = refl
+gt_of_reverse Equal = refl
+gt_of_reverse Greater = refl
+
+turned : (w v : Value) → is_gt (value_cmp w v) ≡ is_lt (value_cmp v w)
+turned w v = ap is_gt (value_cmp_total.antisymm w v) ∙ gt_of_reverse (value_cmp v w)
+
+pub greatest_is_choice : IsChoice is_gt
+greatest_is_choice = record {
+  one_way = λ x y e. turned y x ∙ least_is_choice.one_way y x (sym (turned x y) ∙ e);
+  chain = λ x y z e f. turned x z ∙ least_is_choice.chain z y x (sym (turned y z) ∙ f) (sym (turned x y) ∙ e);
+}
 
 pub same_equiv : IsEquivalence same
 same_equiv = eq_by_cmp_equiv value_cmp_total

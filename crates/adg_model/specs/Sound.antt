@@ -87,6 +87,13 @@ abbrev pub ScnsWithin : ℕ → ℕ → List LogEntry → Type 0
 ScnsWithin low high [] = Unit {0}
 ScnsWithin low high (e ∷ es) = (low ≤ e.scn) × (e.scn ≤ high) × ScnsWithin e.scn high es
 
+-- a merged log up to a frontier: it is sound, its positions run on from 0, and its SCNs are from 1 on, do not fall, and
+-- are at most the frontier
+pub record IsLog (log : List LogEntry) (frontier : ℕ) : Type 0 where
+  pub sound : IsSound log
+  pub places : numbered 0 log ≡ log
+  pub scns : ScnsWithin 1 frontier log
+
 -- entries that continue a log with one frontier to a later one: the log with them is sound, their
 -- positions run on, and their SCNs are above the one and at most the other
 pub record IsContinuation (log : List LogEntry) (old : ℕ) (entries : List LogEntry) (new : ℕ) : Type 0 where

@@ -9,30 +9,10 @@ use Rattle.std.proofs.lemmas.List.{append_assoc}
 use Rattle.std.proofs.lemmas.List.Sorted.{ranks_by}
 use Rattle.adg_base.specs.declared.value.Value.{Value}
 use Rattle.adg_base.specs.Values.{value_cmp, is_null}
-use Rattle.adg_base.proofs.ValueOrder.{value_cmp_total}
+use Rattle.adg_base.proofs.ValueOrder.{IsChoice, least_is_choice, greatest_is_choice}
 use Rattle.column_codec.specs.declared.bounds.Side.{Side}
 use Rattle.column_codec.specs.declared.bounds.Side.TheVariants.{Least, Greatest}
 use Rattle.column_codec.specs.Bounds.{ComesFirst, AreNull, better_of}
-
-abbrev IsChoice : (Ordering → Bool) → Type 0
-IsChoice better = IsStrictWeakOrder (λ w v. better (value_cmp w v))
-
-least_is_choice : IsChoice is_lt
-least_is_choice = ranks_by value_cmp_total (λ v. v)
-
-gt_of_reverse : (o : Ordering) → is_gt (ordering_reverse o) ≡ is_lt o
-gt_of_reverse Less = refl
-gt_of_reverse Equal = refl
-gt_of_reverse Later = refl
-
-turned : (w v : Value) → is_gt (value_cmp w v) ≡ is_lt (value_cmp v w)
-turned w v = ap is_gt (value_cmp_total.antisymm w v) ∙ gt_of_reverse (value_cmp v w)
-
-greatest_is_choice : IsChoice is_gt
-greatest_is_choice = record {
-  one_way = λ x y e. turned y x ∙ least_is_choice.one_way y x (sym (turned x y) ∙ e);
-  chain = λ x y z e f. turned x z ∙ least_is_choice.chain z y x (sym (turned y z) ∙ f) (sym (turned x y) ∙ e);
-}
 
 choice_of : (side : Side) → IsChoice (better_of side)
 choice_of Least = least_is_choice

@@ -1,7 +1,7 @@
 -- The rows of an extent, column by column.
 use Rattle.std.specs.Prelude.{◌≡◌, ℕ, ◌+◌, ◌*◌, ◌/◌, Bool, ◌==◌, nat_lt, ◌&&◌, if◌then◌else◌, List, [], ◌∷◌, length, filter, Option, Some, None}
-use Rattle.std.specs.List.{AllByRecursion, flat_map, range_with_len}
-use Rattle.adg_base.specs.Address.{Place, same_place, block_places}
+use Rattle.std.specs.List.{AllByRecursion}
+use Rattle.adg_base.specs.Address.{Place, same_place, extent_places}
 use Rattle.adg_base.specs.declared.value.Value.{Value}
 use Rattle.adg_base.specs.declared.placed.PlacedRow.{PlacedRow}
 use Rattle.column_codec.specs.Values.{row_at}
@@ -10,10 +10,6 @@ use Rattle.column_codec.specs.Values.{row_at}
 pub record PlacedColumns : Type 0 where
   pub addresses : List Place
   pub columns : List (List Value)
-
--- the addresses of an extent, in order: an extent is 16 blocks
-abbrev pub extent_places : ℕ → ℕ → List Place
-extent_places obj extent = flat_map (block_places obj) (range_with_len (16 * extent) 16)
 
 -- whether an address is one of an extent
 abbrev pub is_in_extent : ℕ → ℕ → Place → Bool

@@ -1,9 +1,9 @@
 -- Two rows in the first block of an extent.
 use Rattle.std.proofs.Common.{◌≡◌, ℕ, ◌==◌, ◌&&◌, nat_lt, Bool, Option, Some, IfSome, List, [], ◌∷◌, length, filter, refl, sym, ap, ap₂, subst, ◌∙◌}
 use Rattle.std.specs.List.{AllByRecursion}
-use Rattle.adg_base.specs.Address.{Place, place}
+use Rattle.adg_base.specs.Address.{Place, place, extent_places}
 use Rattle.adg_base.specs.declared.value.Value.{Value}
-use Rattle.column_codec.specs.Extent.{PlacedColumns, AreColumns, extent_places}
+use Rattle.column_codec.specs.Extent.{PlacedColumns, AreColumns}
 
 abbrev first_two : Place → Bool
 first_two a = (a.block == 0) && nat_lt a.slot 2

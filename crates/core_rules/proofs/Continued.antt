@@ -14,13 +14,13 @@ use Rattle.adg_base.specs.declared.node.NodeKind.TheVariants as node
 use Rattle.adg_model.specs.declared.mined.Mined.TheVariants as mined
 use Rattle.adg_model.specs.Log.{numbered}
 use Rattle.adg_model.specs.Database.{Table, is_in_memory, rows_at, table_at, touched_by, touched}
-use Rattle.adg_model.specs.Sound.{IsContinuation}
+use Rattle.adg_model.specs.Sound.{IsContinuation, IsLog}
 use Rattle.adg_model.specs.Mined.{mined_of, mined_by}
 use Rattle.adg_model.proofs.LogLaws.{numbered_append}
 use Rattle.adg_model.proofs.RowLaws.{rows_stop_at_scn}
 use Rattle.core_rules.specs.Share.{is_shared_by, share, ends, begun_above, node_by, node_of, nodes_of, CommitsAt}
 use Rattle.core_rules.specs.State.{At}
-use Rattle.core_rules.specs.LogFacts.{IsLog, LogFacts}
+use Rattle.core_rules.specs.LogFacts.{LogFacts}
 use Rattle.core_rules.specs.Parts.{mined_from}
 use Rattle.core_rules.proofs.Lists.{Has, has, contains, has_append_left, has_append_cases, has_filter_back, has_filter_map_back, each_has, each_weaker, contains_filter_map, contains_filter_map_back}
 use Rattle.core_rules.proofs.Shares.{begun_entry, entry_begun}

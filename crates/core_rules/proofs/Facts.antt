@@ -8,7 +8,8 @@ use Rattle.adg_model.specs.declared.mined.Mined.TheVariants as mined
 use Rattle.adg_model.specs.Database.{Table, table_at, touched_by}
 use Rattle.adg_model.specs.Mined.{mined_of}
 use Rattle.core_rules.specs.Share.{NotRedefined}
-use Rattle.core_rules.specs.LogFacts.{IsLog, IsInMemory, LogHasFacts}
+use Rattle.core_rules.specs.LogFacts.{IsInMemory, LogHasFacts}
+use Rattle.adg_model.specs.Sound.{IsLog}
 use Rattle.core_rules.proofs.FactsOrder.{positions, rises, received}
 use Rattle.core_rules.proofs.FactsTxns.{begun_once, ended_once, begun_to_touch, begun_to_end, touched_to_end}
 use Rattle.core_rules.proofs.FactsRows.{same_row}

@@ -13,12 +13,12 @@ use Rattle.adg_model.specs.declared.fault.CheckKind.TheVariants.{TxnUnknown, NoO
 use Rattle.adg_model.specs.declared.mined.Mined.TheVariants as mined
 use Rattle.adg_model.specs.Log.{upto}
 use Rattle.adg_model.specs.Database.{Database, Table, Change, no_database, database, after, walked, set_at, is_in_memory, has_change, struck, table_at, touched_by}
-use Rattle.adg_model.specs.Sound.{SoundFrom, refusal, demand, is_running, on_table, on_change, has_address, same_flag}
+use Rattle.adg_model.specs.Sound.{SoundFrom, refusal, demand, is_running, on_table, on_change, has_address, same_flag, IsLog}
 use Rattle.adg_model.specs.Mined.{mined_of, mined_by, mined_at}
 use Rattle.adg_model.proofs.LogLaws.{ScnsRise, upto_all, upto_none, upto_append}
 use Rattle.adg_model.proofs.RowLaws.{walked_append}
 use Rattle.core_rules.specs.Share.{NotRedefined}
-use Rattle.core_rules.specs.LogFacts.{IsLog, IsInMemory}
+use Rattle.core_rules.specs.LogFacts.{IsInMemory}
 use Rattle.core_rules.proofs.Lists.{Has, has, contains, each_has, each_from_has, has_filter, has_append_left, has_append_right, has_append_cases}
 use Rattle.core_rules.proofs.FactsTables.{sound_split, walked_created, tied, walked_stays, walked_back, scns_rise, begun_by, rises_first, between, same_table}
 

@@ -3,10 +3,9 @@ use Rattle.std.proofs.Common.{◌≡◌, ℕ, zero, suc, ◌+◌, ◌≤◌, Lis
 use Rattle.std.specs.List.{Contains, AllByRecursion}
 use Rattle.adg_base.specs.declared.log.LogEntry.{LogEntry}
 use Rattle.adg_model.specs.Log.{numbered}
-use Rattle.adg_model.specs.Sound.{ScnsWithin}
+use Rattle.adg_model.specs.Sound.{ScnsWithin, IsLog}
 use Rattle.adg_model.proofs.LogLaws.{ScnsRise}
 use Rattle.core_rules.specs.State.{At}
-use Rattle.core_rules.specs.LogFacts.{IsLog}
 use Rattle.core_rules.proofs.Lists.{each_at, each_contains}
 
 -- a position is the first one and the number of entries before it

@@ -13,7 +13,8 @@ use Rattle.adg_model.proofs.LogLaws.{upto_all, upto_append, scns_split}
 use Rattle.adg_model.proofs.RowLaws.{walked_append}
 use Rattle.core_rules.specs.Share.{CommitsAt}
 use Rattle.core_rules.specs.State.{At}
-use Rattle.core_rules.specs.LogFacts.{IsLog, NotTouched}
+use Rattle.core_rules.specs.LogFacts.{NotTouched}
+use Rattle.adg_model.specs.Sound.{IsLog}
 use Rattle.core_rules.proofs.Lists.{Has, has_at, has_take, has_filter_back, has_filter_map, has_append_right, contains, each_has}
 use Rattle.core_rules.proofs.FactsOrder.{scns_rise}
 

@@ -12,11 +12,10 @@ use Rattle.adg_model.specs.declared.fault.CheckKind.TheVariants.{ObjectTwice}
 use Rattle.adg_model.specs.Spelling.{IsVector}
 use Rattle.adg_model.specs.Log.{upto}
 use Rattle.adg_model.specs.Database.{Database, Table, no_database, database, after, walked, set_at, is_in_memory, with_column, without_flag, table_at}
-use Rattle.adg_model.specs.Sound.{SoundFrom, ScnsWithin, refusal, demand}
+use Rattle.adg_model.specs.Sound.{SoundFrom, ScnsWithin, refusal, demand, IsLog}
 use Rattle.adg_model.proofs.LogLaws.{ScnsRise, scns_split, upto_upto}
 use Rattle.adg_model.proofs.RowLaws.{walked_append}
 use Rattle.core_rules.specs.Share.{redefines, NotRedefined}
-use Rattle.core_rules.specs.LogFacts.{IsLog}
 use Rattle.core_rules.proofs.Lists.{Has, contains, each_has, each_weaker, has_filter_back, has_append_right}
 
 -- what a vector makes of the definition of an object

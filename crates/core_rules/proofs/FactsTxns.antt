@@ -11,10 +11,9 @@ use Rattle.adg_base.specs.declared.log.LogEntry.{LogEntry}
 use Rattle.adg_model.specs.declared.fault.CheckKind.{CheckKind}
 use Rattle.adg_model.specs.declared.fault.CheckKind.TheVariants.{TxnTwice, TxnUnknown}
 use Rattle.adg_model.specs.Database.{Database, no_database, set_at, after, walked, touched_by}
-use Rattle.adg_model.specs.Sound.{SoundFrom, demand, is_running, refusal}
+use Rattle.adg_model.specs.Sound.{SoundFrom, demand, is_running, refusal, IsLog}
 use Rattle.core_rules.specs.Share.{begins, ends}
 use Rattle.core_rules.specs.State.{At}
-use Rattle.core_rules.specs.LogFacts.{IsLog}
 use Rattle.core_rules.proofs.Lists.{at_same, at_take, at_take_back, at_contains, contains_at}
 use Rattle.core_rules.proofs.FactsOrder.{positions, rises}
 

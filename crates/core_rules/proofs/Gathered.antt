@@ -7,7 +7,7 @@ use Rattle.std.proofs.lemmas.Bool.{eqb-true, eq-eqb, leb-true, and_from, and_par
 use Rattle.std.proofs.lemmas.List.{append-nil, length-append, length-replicate}
 use Rattle.std.proofs.lemmas.List.Elements.{filter_map-append}
 use Rattle.std.proofs.lemmas.Grind.{flat_map-append}
-use Rattle.adg_base.specs.Address.{Place, block_places, place, same_place}
+use Rattle.adg_base.specs.Address.{Place, block_places, place, same_place, extent_places}
 use Rattle.adg_base.specs.declared.value.Value.{Value}
 use Rattle.adg_base.specs.declared.value.Value.TheVariants.{Null}
 use Rattle.adg_base.specs.declared.placed.PlacedRow.{PlacedRow}
@@ -15,7 +15,7 @@ use Rattle.adg_base.specs.declared.command.Select.{Select}
 use Rattle.adg_base.specs.declared.answer.Reply.{Reply}
 use Rattle.adg_model.specs.Database.{Rows, Table, rows_at, table_at}
 use Rattle.adg_model.specs.Query.{padded}
-use Rattle.core_rules.specs.Extents.{IsInExtent, placed_row, rows_of_blocks, extent_rows, without_places, extent_places}
+use Rattle.core_rules.specs.Extents.{IsInExtent, placed_row, rows_of_blocks, extent_rows, without_places}
 use Rattle.core_rules.specs.State.{CoreState, ColumnUnit, Scan, Free, Scanning}
 use Rattle.core_rules.specs.Scans.{BeginsScan, Look, look_if, look_at, row_in, from_columns, from_blocks, gathered_at, gathered, count_from_columns, count_from_blocks, Gathers, next_look, next_places, new_scan, scan_then, EndsScan}
 use Rattle.core_rules.specs.LogFacts.{LogFacts, NotTouched}

@@ -9,11 +9,11 @@ use Rattle.adg_base.specs.Shard.{shard_of_vector}
 use Rattle.adg_base.specs.declared.log.LogEntry.{LogEntry}
 use Rattle.adg_base.specs.declared.node.Node.{Node}
 use Rattle.adg_base.specs.declared.node.DdlNode.{DdlNode}
-use Rattle.adg_model.specs.Sound.{IsContinuation}
+use Rattle.adg_model.specs.Sound.{IsContinuation, IsLog}
 use Rattle.adg_model.specs.Mined.{mined_of, node_item, ddl_item}
 use Rattle.core_rules.specs.Share.{is_shared_by, share, shares, begun_above, node_of, ddl_of, NotedIn, EndedWithin}
 use Rattle.core_rules.specs.State.{CoreState, Worker, At, share_of, limit, has_txn}
-use Rattle.core_rules.specs.LogFacts.{IsLog, LogFacts, LogHasFacts}
+use Rattle.core_rules.specs.LogFacts.{LogFacts, LogHasFacts}
 use Rattle.core_rules.specs.Parts.{CountsAre, AppliedAre, AreaIs, IsGone, PartitionIs, is_within, flush_nodes, flush_ddl, flush_items, NotedBelow, CollectedAre, AllCollected}
 use Rattle.core_rules.specs.Invariant.{Invariant, WorkerIs, mined_of_all}
 use Rattle.core_rules.proofs.Lists.{Has, has, has_filter_back, contains, contains_take, at_map_back, each_append, each_from_has}

@@ -30,7 +30,3 @@ extent_rows rows obj width extent = rows_of_blocks rows obj width (16 * extent) 
 -- rows without their addresses
 abbrev pub without_places : List PlacedRow → List (List Value)
 without_places rows = map (λ r. r.row) rows
-
--- the addresses of an extent, in their order
-abbrev pub extent_places : (obj extent : ℕ) → List Place
-extent_places obj extent = flat_map (block_places obj) (range_with_len (16 * extent) 16)

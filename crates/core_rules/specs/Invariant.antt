@@ -4,7 +4,7 @@ use Rattle.adg_base.specs.Shard.{shard_of_unit}
 use Rattle.adg_base.specs.declared.log.LogEntry.{LogEntry}
 use Rattle.core_rules.specs.Share.{shares}
 use Rattle.core_rules.specs.State.{CoreState, Worker, ColumnUnit, Population, Scan, Populating, Scanning, At, share_of, limit, holders}
-use Rattle.core_rules.specs.LogFacts.{IsLog}
+use Rattle.adg_model.specs.Sound.{IsLog}
 use Rattle.core_rules.specs.Parts.{NumbersAre, QuiesceIs, ShardsAre, CountsAre, ProgressIs, AppliedAre, AreaIs, PartitionIs, DdlIs, mined_from, ItemsAre, items_of, ClaimsAre, stages_of, AllCollected}
 use Rattle.core_rules.specs.UnitParts.{UnitIs, UnitIsPrecise, PopulationIs, TicketsDiffer, HasItsUnits, ScanIs}
 

@@ -5,18 +5,11 @@ use Rattle.adg_base.specs.Address.{Place}
 use Rattle.adg_base.specs.declared.vector.Vector.TheVariants.{Commit}
 use Rattle.adg_base.specs.declared.log.LogEntry.{LogEntry}
 use Rattle.adg_model.specs.declared.mined.Mined.TheVariants as mined
-use Rattle.adg_model.specs.Log.{numbered}
 use Rattle.adg_model.specs.Database.{Table, rows_at, table_at, touched, touched_by}
-use Rattle.adg_model.specs.Sound.{IsSound, ScnsWithin}
+use Rattle.adg_model.specs.Sound.{IsLog}
 use Rattle.adg_model.specs.Mined.{mined_of}
 use Rattle.core_rules.specs.Share.{begins, ends, CommitsAt, NotRedefined}
 use Rattle.core_rules.specs.State.{At}
-
--- the log is sound, its positions run on from 0, and its SCNs are from 1 on, do not fall, and are at most the frontier
-pub record IsLog (log : List LogEntry) (frontier : ℕ) : Type 0 where
-  pub sound : IsSound log
-  pub places : numbered 0 log ≡ log
-  pub scns : ScnsWithin 1 frontier log
 
 -- an object is in-memory at an SCN
 pub record IsInMemory (log : List LogEntry) (obj scn : ℕ) : Type 0 where

@@ -1,7 +1,7 @@
 -- The events of a scan: ScanBegin, ScanExtent and ScanEnd.
 use Rattle.std.specs.Prelude.{◌≡◌, ℕ, ◌+◌, ◌<◌, ◌≤◌, nat_le, Bool, true, not, ◌&&◌, if◌then◌else◌, List, [], ◌∷◌, ◌++◌, length, Option, Some, None, option_map}
 use Rattle.std.specs.List.{filter_map}
-use Rattle.adg_base.specs.Address.{Place, same_place}
+use Rattle.adg_base.specs.Address.{Place, same_place, extent_places}
 use Rattle.adg_base.specs.declared.value.Value.{Value}
 use Rattle.adg_base.specs.declared.placed.PlacedRow.{PlacedRow}
 use Rattle.adg_base.specs.declared.command.Select.{Select}
@@ -9,7 +9,6 @@ use Rattle.adg_base.specs.declared.answer.Reply.{Reply}
 use Rattle.adg_base.specs.declared.answer.Reply.TheVariants as reply
 use Rattle.adg_model.specs.Database.{Rows, Table, rows_at, table_at}
 use Rattle.adg_model.specs.Query.{padded, select_lines, has_columns, has_types}
-use Rattle.core_rules.specs.Extents.{extent_places}
 use Rattle.core_rules.specs.State.{CoreState, ColumnUnit, Scan, Free, Scanning}
 use Rattle.core_rules.specs.Populations.{IsSession, with_session}
 

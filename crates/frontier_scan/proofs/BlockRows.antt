@@ -10,7 +10,7 @@ use Rattle.adg_base.specs.declared.value.Value.{Value}
 use Rattle.adg_base.specs.declared.log.LogEntry.{LogEntry}
 use Rattle.adg_model.specs.Database.{Rows, rows_at}
 use Rattle.adg_model.specs.Query.{object_rows, padded}
-use Rattle.row_blocks.specs.Law.{IsLog}
+use Rattle.adg_model.specs.Sound.{IsLog}
 use Rattle.row_blocks.specs.Lent.{lent}
 use Rattle.row_blocks.specs.Stands.{IsSlot}
 use Rattle.row_blocks.specs.Shards.{Shards, StandAt, row_in}

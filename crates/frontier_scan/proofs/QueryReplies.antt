@@ -9,7 +9,7 @@ use Rattle.adg_model.specs.Database.{Table, rows_at, table_at}
 use Rattle.adg_model.specs.Defined.{table_of, IsDefinition, AreDefined}
 use Rattle.adg_model.specs.Command.{IsBadQuery}
 use Rattle.adg_model.specs.Query.{has_columns, has_types, padded, select_lines, object_rows, table_rows}
-use Rattle.row_blocks.specs.Law.{IsLog}
+use Rattle.adg_model.specs.Sound.{IsLog}
 use Rattle.row_blocks.specs.Shards.{Shards, StandAt}
 use Rattle.scan_eval.specs.declared.admission.QueryRefused.TheVariants.{NoColumn, WrongType}
 use Rattle.scan_eval.specs.Admission.{admission, Follows}

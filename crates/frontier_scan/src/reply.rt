@@ -1,7 +1,7 @@
 ghost use Rattle.std.specs.Prelude.{◌≡◌, ◌<◌, ◌^◌, List, length, IfOk};
 ghost use Rattle.adg_base.specs.declared.log.LogEntry.{LogEntry};
 ghost use Rattle.dictionary.specs.Standing.{StandsFor};
-ghost use Rattle.row_blocks.specs.Law.{IsLog};
+ghost use Rattle.adg_model.specs.Sound.{IsLog};
 ghost use Rattle.row_blocks.specs.Shards.{shards_in, StandAt};
 ghost use Rattle.frontier_scan.specs.Reply.{AsksUnbuilt, AreCounted, IsQueryReply, IsReplyAt};
 

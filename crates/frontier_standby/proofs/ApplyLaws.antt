@@ -2,7 +2,7 @@
 use Rattle.std.proofs.Common.{◌≡◌, ℕ, ◌+◌, ◌<◌, ◌^◌, List, [], ◌∷◌, ◌++◌, length, take, drop, get_or, append_assoc, length-append, sym, ap, subst, ◌∙◌, arith}
 use Rattle.std.proofs.lemmas.List.{take_more, take-append-drop}
 use Rattle.adg_base.specs.declared.log.LogEntry.{LogEntry}
-use Rattle.row_blocks.specs.Law.{IsLog}
+use Rattle.adg_model.specs.Sound.{IsLog}
 use Rattle.row_blocks.specs.Shards.{Shards, StandAt, PassesEntry}
 use Rattle.row_blocks.proofs.Walked.{Placed, placed}
 use Rattle.row_blocks.proofs.Stands.{position}

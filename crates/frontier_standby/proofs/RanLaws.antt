@@ -3,10 +3,9 @@ use Rattle.std.proofs.Common.{◌≡◌, ◌≤◌, ℕ, List, [], length, sym, 
 use Rattle.adg_base.specs.declared.log.LogEntry.{LogEntry}
 use Rattle.adg_model.specs.declared.delivery.RawDelivery.{RawDelivery}
 use Rattle.adg_model.specs.Log.{frontier}
-use Rattle.adg_model.specs.Sound.{IsSound}
+use Rattle.adg_model.specs.Sound.{IsSound, IsLog}
 use Rattle.redo_intake.specs.Intake.{Taking, HasTaken}
 use Rattle.redo_intake.proofs.NothingLaws.{nothing, nothing-logged}
-use Rattle.row_blocks.specs.Law.{IsLog}
 use Rattle.row_blocks.specs.declared.shard.Shard.{Shard}
 use Rattle.row_blocks.specs.Shards.{shards_in, StandAt, StandAtStart}
 use Rattle.frontier_standby.specs.declared.standby.FrontierStandby.{FrontierStandby}

@@ -21,7 +21,7 @@ use Rattle.feed_run.proofs.NextLaws.{next_count, next_few, next_sessions, next_t
 use Rattle.log_merger.specs.Merger.{highest_number}
 use Rattle.redo_intake.specs.Intake.{Taking, Checks, bytes_of}
 use Rattle.redo_intake.proofs.RoomLaws.{take_room, take_threads}
-use Rattle.row_blocks.specs.Law.{IsLog}
+use Rattle.adg_model.specs.Sound.{IsLog}
 use Rattle.row_blocks.specs.declared.shard.Shard.{Shard}
 use Rattle.row_blocks.specs.Shards.{shards_in, AreNumbered, StandAt}
 use Rattle.row_blocks.proofs.Together.{log_continued, stand_continued}

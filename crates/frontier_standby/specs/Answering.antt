@@ -6,7 +6,7 @@ use Rattle.adg_base.specs.declared.log.LogEntry.{LogEntry}
 use Rattle.adg_base.specs.declared.answer.Line.{Line}
 use Rattle.adg_model.specs.Transcript.{Asked}
 use Rattle.dictionary.specs.Standing.{Known, StandsFor}
-use Rattle.row_blocks.specs.Law.{IsLog}
+use Rattle.adg_model.specs.Sound.{IsLog}
 use Rattle.row_blocks.specs.Shards.{Shards, StandAt}
 use Rattle.frontier_scan.specs.Reply.{AsksUnbuilt, IsReplyAt}
 

@@ -5,12 +5,11 @@ use Rattle.adg_base.specs.declared.log.LogEntry.{LogEntry}
 use Rattle.adg_base.specs.declared.answer.Lines.{Lines}
 use Rattle.adg_model.specs.declared.delivery.RawDelivery.{RawDelivery}
 use Rattle.adg_model.specs.Log.{frontier, merged_log}
-use Rattle.adg_model.specs.Sound.{IsRedoFault}
+use Rattle.adg_model.specs.Sound.{IsRedoFault, IsLog}
 use Rattle.adg_model.specs.Transcript.{LegalFrom, printed, all_asked}
 use Rattle.feed_run.specs.declared.standby.Unanswered.{Unanswered}
 use Rattle.feed_run.specs.declared.standby.Unanswered.TheVariants.{Redo, NotBuilt, Memory}
 use Rattle.redo_intake.specs.Intake.{Taking, HasTaken}
-use Rattle.row_blocks.specs.Law.{IsLog}
 use Rattle.row_blocks.specs.declared.shard.Shard.{Shard}
 use Rattle.row_blocks.specs.Shards.{Shards, StandAt, shards_in}
 use Rattle.frontier_standby.specs.declared.standby.FrontierStandby.{FrontierStandby}

@@ -7,11 +7,11 @@ use Rattle.std.proofs.lemmas.Bool.Decides.{nat_tests}
 use Rattle.std.proofs.lemmas.Nat.Bits.{bit_at-zero}
 use Rattle.std.proofs.lemmas.List.{append-nil, append_assoc}
 use Rattle.std.proofs.lemmas.List.FromFn.{map-range_with_len_more}
-use Rattle.adg_base.specs.Address.{Place}
+use Rattle.adg_base.specs.Address.{Place, extent_places}
 use Rattle.adg_base.specs.declared.value.Value.{Value}
 use Rattle.adg_model.specs.Database.{Rows}
 use Rattle.column_codec.specs.Values.{row_at}
-use Rattle.column_codec.specs.Extent.{PlacedColumns, AreColumns, extent_places, row_in}
+use Rattle.column_codec.specs.Extent.{PlacedColumns, AreColumns, row_in}
 use Rattle.column_units.specs.Unit.{marks}
 use Rattle.column_units.specs.Look.{Look}
 use Rattle.hybrid_scan.specs.declared.scan.ExtentCounts.{ExtentCounts}

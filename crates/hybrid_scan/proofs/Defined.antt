@@ -12,10 +12,9 @@ use Rattle.adg_model.specs.declared.fault.CheckKind.{CheckKind}
 use Rattle.adg_model.specs.declared.fault.CheckKind.TheVariants.{ObjectTwice}
 use Rattle.adg_model.specs.Log.{upto}
 use Rattle.adg_model.specs.Database.{Database, Table, no_database, after, walked, database, table_at, with_column, without_flag}
-use Rattle.adg_model.specs.Sound.{SoundFrom, refusal, demand}
+use Rattle.adg_model.specs.Sound.{SoundFrom, refusal, demand, IsLog}
 use Rattle.adg_model.proofs.LogLaws.{each_weaker, each_upto, upto_append, upto_all}
 use Rattle.adg_model.proofs.RowLaws.{walked_append}
-use Rattle.row_blocks.specs.Law.{IsLog}
 use Rattle.row_blocks.proofs.PickedLaw.{each_parts, each_and, sound_parts}
 use Rattle.row_blocks.proofs.Walked.{splits}
 use Rattle.hybrid_scan.specs.Covers.{changes_definition, IsStanding, IsWideAt}

@@ -4,10 +4,10 @@ use Rattle.std.specs.Prelude.{slice_get}
 use Rattle.std.specs.List.{list_any}
 use Rattle.std.proofs.lemmas.List.Elements.{filter-append}
 use Rattle.std.proofs.lemmas.Bool.Decides.{nat_tests}
-use Rattle.adg_base.specs.Address.{Place, same_place}
+use Rattle.adg_base.specs.Address.{Place, same_place, extent_places}
 use Rattle.adg_base.specs.declared.value.Value.{Value}
 use Rattle.column_codec.specs.Values.{row_at}
-use Rattle.column_codec.specs.Extent.{PlacedColumns, extent_places, found_from, row_in}
+use Rattle.column_codec.specs.Extent.{PlacedColumns, found_from, row_in}
 use Rattle.hybrid_scan.specs.Progress.{is_here, nth_place}
 use Rattle.hybrid_scan.proofs.Places.{nth_places, places_are, places_more, places_split, later_places, none_later, none_before, length_places}
 

@@ -4,8 +4,7 @@ use Rattle.std.specs.List.{flat_map, list_any, range_with_len}
 use Rattle.std.proofs.lemmas.Bool.Decides.{nat_tests}
 use Rattle.std.proofs.lemmas.List.{append-nil, append_assoc, map-append}
 use Rattle.std.proofs.lemmas.List.FromFn.{map-range_with_len_more}
-use Rattle.adg_base.specs.Address.{Place, place, same_place, block_places}
-use Rattle.column_codec.specs.Extent.{extent_places}
+use Rattle.adg_base.specs.Address.{Place, place, same_place, block_places, extent_places}
 use Rattle.hybrid_scan.specs.Progress.{nth_place}
 
 -- the first so many addresses of an extent

@@ -2,12 +2,12 @@
 use Rattle.std.proofs.Common.{◌≡◌, ℕ, zero, suc, ◌+◌, ◌<◌, ◌≤◌, Bool, true, false, if◌then◌else◌, List, map, Some, None, option_map, refl, sym, ap, ap₂, subst, ◌∙◌, arith, true≢false}
 use Rattle.std.specs.List.{AllByRecursion, range_with_len}
 use Rattle.std.proofs.lemmas.Bool.Decides.{nat_tests}
-use Rattle.adg_base.specs.Address.{Place}
+use Rattle.adg_base.specs.Address.{Place, extent_places}
 use Rattle.adg_base.specs.declared.log.LogEntry.{LogEntry}
 use Rattle.adg_model.specs.Database.{Rows, rows_at}
 use Rattle.adg_model.specs.Query.{padded}
 use Rattle.adg_model.proofs.LogLaws.{each_weaker}
-use Rattle.column_codec.specs.Extent.{extent_places, is_in_extent, row_in}
+use Rattle.column_codec.specs.Extent.{is_in_extent, row_in}
 use Rattle.column_units.specs.Unit.{marks}
 use Rattle.column_units.specs.Look.{Look}
 use Rattle.hybrid_scan.specs.Scan.{wide, seen, extent_rows}

@@ -1,11 +1,11 @@
 -- What the tests scan.
 use Rattle.std.proofs.Common.{◌≡◌, ℕ, ◌==◌, ◌&&◌, ◌||◌, Bool, List, [], ◌∷◌, length, filter, refl, sym, ap, ap₂, subst, ◌∙◌, arith}
 use Rattle.std.specs.List.{AllByRecursion}
-use Rattle.adg_base.specs.Address.{Place, place}
+use Rattle.adg_base.specs.Address.{Place, place, extent_places}
 use Rattle.adg_base.specs.declared.value.Value.{Value}
-use Rattle.column_codec.specs.Extent.{PlacedColumns, AreColumns, extent_places}
+use Rattle.column_codec.specs.Extent.{PlacedColumns, AreColumns}
 use Rattle.row_blocks.specs.declared.shard.Shard.{Shard}
-use Rattle.row_blocks.specs.Law.{IsLog}
+use Rattle.adg_model.specs.Sound.{IsLog}
 use Rattle.row_blocks.specs.Shards.{StandAtStart, shards_in}
 use Rattle.hybrid_scan.specs.Reader.{AreServing}
 

@@ -14,7 +14,8 @@ use Rattle.row_blocks.specs.declared.version.Version.{Version}
 use Rattle.row_blocks.specs.declared.version.End.{End}
 use Rattle.row_blocks.specs.Pick.{Commits, candidate, later, counted, row_of, latest_by}
 use Rattle.row_blocks.specs.Versions.{Deed, Makes, Strikes, stands, strike, deed_at, after_deed, versions_after, versions_of, end_by, earlier, end_of}
-use Rattle.row_blocks.specs.Law.{IsLog, commits_at}
+use Rattle.row_blocks.specs.Law.{commits_at}
+use Rattle.adg_model.specs.Sound.{IsLog}
 use Rattle.row_blocks.proofs.PickedLaw.{picked_is_committed}
 
 contains_first : {X : Type 0} (x : X) (xs : List X) → Contains (x ∷ xs) x

@@ -10,7 +10,7 @@ use Rattle.adg_model.specs.Database.{Rows, Table, commits, rows_at, table_at, to
 use Rattle.column_codec.specs.Extent.{PlacedColumns, is_in_extent, row_in}
 use Rattle.column_units.specs.Look.{Look}
 use Rattle.column_units.specs.Unit.{marks}
-use Rattle.row_blocks.specs.Law.{IsLog}
+use Rattle.adg_model.specs.Sound.{IsLog}
 use Rattle.hybrid_scan.specs.Scan.{wide, scanned, extent_rows}
 
 -- whether a vector changes the definition of an object that is there

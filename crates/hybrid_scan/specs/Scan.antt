@@ -6,7 +6,8 @@ use Rattle.adg_base.specs.declared.placed.PlacedRow.{PlacedRow}
 use Rattle.adg_model.specs.Database.{Rows}
 use Rattle.adg_model.specs.Query.{padded}
 use Rattle.column_codec.specs.Values.{row_at}
-use Rattle.column_codec.specs.Extent.{PlacedColumns, extent_places, row_in}
+use Rattle.column_codec.specs.Extent.{PlacedColumns, row_in}
+use Rattle.adg_base.specs.Address.{extent_places}
 use Rattle.column_units.specs.Unit.{marks}
 use Rattle.column_units.specs.Look.{Look}
 

@@ -7,13 +7,13 @@ use Rattle.std.proofs.lemmas.List.Elements.{filter-append}
 use Rattle.adg_base.specs.Address.{Place}
 use Rattle.adg_base.specs.declared.log.LogEntry.{LogEntry}
 use Rattle.adg_model.specs.Database.{Database, no_database, after, walked, database, rows_at}
-use Rattle.adg_model.specs.Sound.{SoundFrom}
+use Rattle.adg_model.specs.Sound.{SoundFrom, IsLog}
 use Rattle.adg_model.proofs.LogLaws.{each_weaker}
 use Rattle.row_blocks.specs.declared.version.Version.{Version}
 use Rattle.row_blocks.specs.declared.version.End.{End}
 use Rattle.row_blocks.specs.Pick.{Commits, counted, row_of, latest_by, picked_by}
 use Rattle.row_blocks.specs.Versions.{Deed, Makes, Strikes, deed_at, after_deed, versions_after, versions_of, earlier, end_of, is_late}
-use Rattle.row_blocks.specs.Law.{IsLog, commits_at, PickedIsCommitted}
+use Rattle.row_blocks.specs.Law.{commits_at, PickedIsCommitted}
 use Rattle.row_blocks.proofs.Picked.{latest_by_same, latest_by_push, latest_by_strike}
 use Rattle.row_blocks.proofs.Walked.{IsTied, tied_walk, ends_after, ends_after_is, end_of_append, placed, Placed, Splits, splits, OfDeed, of_deed, end_of_above, late_counted, IsLateAt, late_walk}
 

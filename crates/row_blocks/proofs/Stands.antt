@@ -12,14 +12,14 @@ use Rattle.adg_base.specs.declared.vector.Vector.{Vector}
 use Rattle.adg_base.specs.declared.vector.Vector.TheVariants.{Begin, Put, Delete, Undo, Commit, Abort, Create, DropObject, AddColumn, NoInMemory, EndThread}
 use Rattle.adg_base.specs.declared.log.LogEntry.{LogEntry}
 use Rattle.adg_model.specs.Database.{Rows, rows_at}
-use Rattle.adg_model.specs.Sound.{ScnsWithin}
+use Rattle.adg_model.specs.Sound.{ScnsWithin, IsLog}
 use Rattle.adg_model.proofs.RowLaws.{rows_stop_at_scn}
 use Rattle.adg_model.proofs.LogLaws.{each_weaker, each_append}
 use Rattle.row_blocks.specs.declared.version.Version.{Version}
 use Rattle.row_blocks.specs.declared.version.End.{End}
 use Rattle.row_blocks.specs.Pick.{counted, row_of, picked_by}
 use Rattle.row_blocks.specs.Versions.{Deed, deed_at, after_deed, versions_of, end_by, earlier, end_of, is_late}
-use Rattle.row_blocks.specs.Law.{IsLog, commits_at}
+use Rattle.row_blocks.specs.Law.{commits_at}
 use Rattle.row_blocks.specs.Stands.{Kept, same_shard, is_own, own_below, HasApplied, IsSlot, is_open, StandsFor, HoldsAll, IsNext, after_entry, none_kept, SameKept, StandsForMore}
 use Rattle.row_blocks.proofs.Picked.{latest_by_same}
 use Rattle.row_blocks.proofs.Walked.{earlier_none, end_of_append, placed, Placed, OfDeed, of_deed, late_counted, end_of_above, end_by_above, all_above, Splits, splits}

@@ -7,12 +7,12 @@ use Rattle.adg_base.specs.Shard.{shard_of_block, shard_of_txn}
 use Rattle.adg_base.specs.declared.log.LogEntry.{LogEntry}
 use Rattle.adg_model.specs.Log.{numbered}
 use Rattle.adg_model.specs.Database.{rows_at}
-use Rattle.adg_model.specs.Sound.{ScnsWithin, IsContinuation}
+use Rattle.adg_model.specs.Sound.{ScnsWithin, IsContinuation, IsLog}
 use Rattle.adg_model.proofs.LogLaws.{each_weaker, each_append, numbered_append}
 use Rattle.row_blocks.specs.declared.version.Version.{Version}
 use Rattle.row_blocks.specs.declared.version.End.{End}
 use Rattle.row_blocks.specs.Pick.{counted, candidate, row_of, latest, picked_by, candidates, picked}
-use Rattle.row_blocks.specs.Law.{IsLog, commits_at}
+use Rattle.row_blocks.specs.Law.{commits_at}
 use Rattle.row_blocks.specs.Stands.{Kept, none_kept, is_own, own_below, is_open, IsSlot, HasApplied, StandsFor, HoldsAll, IsNext, after_entry, SameKept, HasPassed, StandsFromStart}
 use Rattle.row_blocks.specs.Shards.{Shards, Serves, PickGivesRow, ShardsGiveRows, StandAt, StandAtStart, PassesEntry, KeepSame, PassedGiveRows}
 use Rattle.row_blocks.specs.Versions.{versions_of, end_of, is_late}

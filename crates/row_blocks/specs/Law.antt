@@ -2,17 +2,10 @@
 use Rattle.std.specs.Prelude.{◌≡◌, ℕ, List}
 use Rattle.adg_base.specs.Address.{Place}
 use Rattle.adg_base.specs.declared.log.LogEntry.{LogEntry}
-use Rattle.adg_model.specs.Log.{numbered}
 use Rattle.adg_model.specs.Database.{rows_at}
-use Rattle.adg_model.specs.Sound.{IsSound, ScnsWithin}
+use Rattle.adg_model.specs.Sound.{IsLog}
 use Rattle.row_blocks.specs.Pick.{Commits, counted, picked_by}
 use Rattle.row_blocks.specs.Versions.{versions_of, end_of}
-
--- a merged log up to a frontier: sound, with positions from 0, and SCNs from 1 on that do not fall
-pub record IsLog (log : List LogEntry) (frontier : ℕ) : Type 0 where
-  pub sound : IsSound log
-  pub places : numbered 0 log ≡ log
-  pub scns : ScnsWithin 1 frontier log
 
 -- where the transactions of a log committed that count at an SCN
 abbrev pub commits_at : List LogEntry → ℕ → Commits

@@ -9,7 +9,7 @@ use Rattle.row_blocks.specs.declared.version.Version.{Version}
 use Rattle.row_blocks.specs.declared.version.End.{End}
 use Rattle.row_blocks.specs.declared.shard.Shard.{Shard}
 use Rattle.row_blocks.specs.Pick.{Commits, counted, picked_by, picked}
-use Rattle.row_blocks.specs.Law.{IsLog}
+use Rattle.adg_model.specs.Sound.{IsLog}
 use Rattle.row_blocks.specs.Stands.{Kept, none_kept, IsSlot, HasApplied, HasPassed, SameKept, StandsFor}
 use Rattle.row_blocks.specs.Shard.{shown}
 

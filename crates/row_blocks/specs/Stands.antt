@@ -9,7 +9,8 @@ use Rattle.row_blocks.specs.declared.version.Version.{Version}
 use Rattle.row_blocks.specs.declared.version.End.{End}
 use Rattle.row_blocks.specs.Pick.{picked_by}
 use Rattle.row_blocks.specs.Versions.{deed_at, after_deed, versions_of, end_by, earlier, end_of, is_late}
-use Rattle.row_blocks.specs.Law.{IsLog, commits_at}
+use Rattle.row_blocks.specs.Law.{commits_at}
+use Rattle.adg_model.specs.Sound.{IsLog}
 
 -- what a shard keeps: the position that it has come to, the versions at each address, and the end of
 -- each transaction

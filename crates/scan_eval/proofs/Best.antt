@@ -1,42 +1,19 @@
 -- The least and the greatest value of a list and of another behind it.
 use Rattle.std.proofs.Common.{◌≡◌, Bool, true, false, not, ◌&&◌, ◌||◌, if◌then◌else◌, List, [], ◌∷◌, ◌++◌, refl, sym, ap, ap₂, ◌∙◌, true≢false}
-use Rattle.std.specs.Cmp.{IsStrictWeakOrder}
 use Rattle.std.specs.List.{AllByRecursion}
-use Rattle.std.specs.Ordering.{is_lt, is_gt, ordering_reverse}
+use Rattle.std.specs.Ordering.{is_lt, is_gt}
 use Rattle.std.specs.declared.cmp.Ordering.{Ordering}
-use Rattle.std.specs.declared.cmp.Ordering.TheVariants.{Less, Equal, Greater}
 use Rattle.std.proofs.lemmas.List.{append-nil}
-use Rattle.std.proofs.lemmas.List.Sorted.{ranks_by}
 use Rattle.adg_base.specs.declared.value.Value.{Value}
 use Rattle.adg_base.specs.declared.value.Value.TheVariants.{Null, Int, Text}
 use Rattle.adg_model.specs.Query.{chosen}
 use Rattle.adg_base.specs.Values.{value_cmp, is_null}
 use Rattle.scan_eval.specs.Tally.{best, lesser, greater}
-use Rattle.adg_base.proofs.ValueOrder.{value_cmp_total}
+use Rattle.adg_base.proofs.ValueOrder.{IsChoice, least_is_choice, greatest_is_choice}
 
 -- one step of a choice
 abbrev step : (Ordering → Bool) → Value → Value → Value
 step better v w = if better (value_cmp w v) then w else v
-
-abbrev IsChoice : (Ordering → Bool) → Type 0
-IsChoice better = IsStrictWeakOrder (λ w v. better (value_cmp w v))
-
-pub least_is_choice : IsChoice is_lt
-least_is_choice = ranks_by value_cmp_total (λ v. v)
-
-gt_of_reverse : (o : Ordering) → is_gt (ordering_reverse o) ≡ is_lt o
-gt_of_reverse Less = refl
-gt_of_reverse Equal = refl
-gt_of_reverse Greater = refl
-
-turned : (w v : Value) → is_gt (value_cmp w v) ≡ is_lt (value_cmp v w)
-turned w v = ap is_gt (value_cmp_total.antisymm w v) ∙ gt_of_reverse (value_cmp v w)
-
-pub greatest_is_choice : IsChoice is_gt
-greatest_is_choice = record {
-  one_way = λ x y e. turned y x ∙ least_is_choice.one_way y x (sym (turned x y) ∙ e);
-  chain = λ x y z e f. turned x z ∙ least_is_choice.chain z y x (sym (turned y z) ∙ f) (sym (turned x y) ∙ e);
-}
 
 chosen_append : (better : Ordering → Bool) (v : Value) (ws us : List Value) → chosen better v (ws ++ us) ≡ chosen better (chosen better v ws) us
 chosen_append better v [] us = refl
