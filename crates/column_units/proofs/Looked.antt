@@ -1,6 +1,5 @@
 -- The rows that a look takes from a unit.
 use Rattle.std.proofs.Common.{◌≡◌, ℕ, Bool, true, false, not, nat_le, ◌&&◌, if◌then◌else◌, List, filter, Option, None, option_map, refl, ap, ◌∙◌}
-use Rattle.adg_base.specs.declared.placed.PlacedRow.{PlacedRow}
 use Rattle.column_codec.specs.Extent.{placed_rows}
 use Rattle.column_units.specs.declared.unit.Unit.{Unit as ColumnUnit}
 use Rattle.column_units.specs.declared.unit.UnitState.{UnitState}
