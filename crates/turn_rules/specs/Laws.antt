@@ -13,7 +13,7 @@ use Rattle.core_rules.specs.Step.{Guard}
 use Rattle.core_rules.specs.Runs.{Move, Leads}
 use Rattle.core_rules.specs.ColumnUse.{told_by_units, ColumnUse, UnitsAfter}
 use Rattle.turn_rules.specs.Round.{Seat, Round, actors, is_over, AreSeats, opening_round}
-use Rattle.turn_rules.specs.Picks.{Act, Rests, Makes, MakesAndReplies, Actor, actor_of, act_of, act_at}
+use Rattle.turn_rules.specs.Picks.{Rests, Makes, MakesAndReplies, actor_of, act_of, act_at}
 use Rattle.turn_rules.specs.Turns.{TakesTurn, Plays, moves_of}
 use Rattle.turn_rules.specs.Telling.{lines_of}
 use Rattle.turn_rules.specs.Measure.{measure, turns_left}
@@ -23,8 +23,8 @@ use Rattle.turn_rules.specs.Earlier.{Past, born_by_lines, told_by_lines, UnitsAr
 
 -- An event that the rule picks can happen: it is never answered NotReady.
 pub record EventsAreReady (r : Round) : Type 0 where
-  pub makes : (actor : Actor) (event : Event) → act_of r actor ≡ Makes event → Guard r.core event
-  pub replies : (actor : Actor) (event : Event) (reply : Reply) → act_of r actor ≡ MakesAndReplies event reply → Guard r.core event
+  pub makes : (number : ℕ) (event : Event) → act_of r (actor_of (length r.core.workers) number) ≡ Makes event → Guard r.core event
+  pub replies : (number : ℕ) (event : Event) (reply : Reply) → act_of r (actor_of (length r.core.workers) number) ≡ MakesAndReplies event reply → Guard r.core event
 
 abbrev pub PickedEventsAreReady : Type 0
 PickedEventsAreReady = (r : Round) → RoundIs r → EventsAreReady r
