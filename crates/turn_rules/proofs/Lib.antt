@@ -1,3 +1,5 @@
 pub mod View
 pub mod Use
 pub mod Guards
+pub mod Viewed
+pub mod Kept
