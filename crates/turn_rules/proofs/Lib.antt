@@ -3,3 +3,5 @@ pub mod Use
 pub mod Guards
 pub mod Viewed
 pub mod Kept
+pub mod Costs
+pub mod Falls

@@ -75,7 +75,7 @@ own_place c place q s what h i =
     let e : q ≡ place = omega arith in
     (e, at_same c.sessions place what s (subst (λ m. At c.sessions m what) e i.found) h)
 
-here : (c : CoreState) (place : ℕ) (s : Session) → At c.sessions place s → IsSession c (place + 1) place s
+pub here : (c : CoreState) (place : ℕ) (s : Session) → At c.sessions place s → IsSession c (place + 1) place s
 here c place s h = record { number = refl; found = h }
 
 same_population : (p q : Population) → Populating q ≡ Populating p → q ≡ p
