@@ -5,3 +5,14 @@ pub mod Viewed
 pub mod Kept
 pub mod Costs
 pub mod Falls
+pub mod Waits
+pub mod Ended
+pub mod LinesOf
+pub mod SeatsSo
+pub mod CrewKept
+pub mod SeatTurns
+pub mod Over
+pub mod LegalLines
+pub mod UnitsLeft
+pub mod Building
+pub mod GatherUse

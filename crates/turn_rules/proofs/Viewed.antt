@@ -81,6 +81,9 @@ here c place s h = record { number = refl; found = h }
 same_population : (p q : Population) → Populating q ≡ Populating p → q ≡ p
 same_population p q h = cc
 
+pub same_request : (q p : Request) → Some q ≡ Some p → q ≡ p
+same_request q p h = cc
+
 same_scan : (s t : Scan) → Scanning t ≡ Scanning s → t ≡ s
 same_scan s t h = cc
 
@@ -92,7 +95,7 @@ SessionTurn c place session request told new = (request_act c place (Some reques
 spelled : (text : List ℕ) (request : Request) (command : Command) → request ≡ Asks command → Reads text request → Reads text (Asks command)
 spelled text request command e h = subst (Reads text) e h
 
-population_said : (c : CoreState) (obj : ℕ) (said : Reply) (t : Option Table) → population_refusal c.query t ≡ Some said → is_aborted said ≡ false
+pub population_said : (c : CoreState) (obj : ℕ) (said : Reply) (t : Option Table) → population_refusal c.query t ≡ Some said → is_aborted said ≡ false
 population_said c obj said None h = let e : Some (reply.NoTable c.query) ≡ Some said = h in let f : reply.NoTable c.query ≡ said = cc in subst (λ r. is_aborted r ≡ false) f refl
 population_said c obj said (Some table) h = by_flag table.flag h
   where
@@ -100,7 +103,7 @@ population_said c obj said (Some table) h = by_flag table.flag h
     by_flag true e = let f : None ≡ Some said = e in absurd cc
     by_flag false e = let g : Some (reply.NotInMemory c.query) ≡ Some said = e in let f : reply.NotInMemory c.query ≡ said = cc in subst (λ r. is_aborted r ≡ false) f refl
 
-scan_said : (c : CoreState) (select : Select) (said : Reply) (t : Option Table) → scan_refusal c.query select t ≡ Some said → is_aborted said ≡ false
+pub scan_said : (c : CoreState) (select : Select) (said : Reply) (t : Option Table) → scan_refusal c.query select t ≡ Some said → is_aborted said ≡ false
 scan_said c select said None h = let e : Some (reply.NoTable c.query) ≡ Some said = h in let f : reply.NoTable c.query ≡ said = cc in subst (λ r. is_aborted r ≡ false) f refl
 scan_said c select said (Some table) h = by_columns (has_columns select table) h
   where
