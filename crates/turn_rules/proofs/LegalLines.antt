@@ -91,7 +91,7 @@ count_aborted true seats h =
 text_stands : (commands : List CommandText) (c : CommandText) → Contains commands c → Has (texts_of c.session commands) c.text
 text_stands commands c h = has_filter_map (text_of c.session) commands c c.text (has commands c h) (ap (λ b. cond b (Some c.text) None) (eq-eqb c.session c.session refl))
 
-text_back : (commands : List CommandText) (session : ℕ) (t : List ℕ) → Has (texts_of session commands) t → (c : CommandText) × Contains commands c × (c.session ≡ session) × (c.text ≡ t)
+pub text_back : (commands : List CommandText) (session : ℕ) (t : List ℕ) → Has (texts_of session commands) t → (c : CommandText) × Contains commands c × (c.session ≡ session) × (c.text ≡ t)
 text_back commands session t h =
     let p = has_filter_map_back (text_of session) commands t h in
     let q = by_test p.0 (p.0.session == session) refl p.2 in
@@ -104,7 +104,7 @@ text_back commands session t h =
 abort_text : (c : CommandText) → is_abort c ≡ true → Spells c.text command.Abort
 abort_text c h = (tt, (bytes_eq-Decides c.text (command_bytes command.Abort)).0 h)
 
-text_abort : (c : CommandText) → Spells c.text command.Abort → is_abort c ≡ true
+pub text_abort : (c : CommandText) → Spells c.text command.Abort → is_abort c ≡ true
 text_abort c h = (bytes_eq-Decides c.text (command_bytes command.Abort)).1 h.1
 
 -- what is known of the last round of a delivery

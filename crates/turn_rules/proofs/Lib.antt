@@ -16,3 +16,7 @@ pub mod LegalLines
 pub mod UnitsLeft
 pub mod Building
 pub mod GatherUse
+pub mod WasTold
+pub mod Decimals
+pub mod UseSessions
+pub mod UseTurns

@@ -153,40 +153,39 @@ pub record PopulatesNow (sessions : List Session) (session obj : ℕ) : Type 0 w
   pub of : population.obj ≡ obj
 
 -- What is carried through a round until an ABORT is answered.
-pub record UseIs (x : Scene) (r : Round) : Type 0 where
-  pub log : r.core.log ≡ x.log
-  pub frontier : r.core.frontier ≡ x.frontier
-  pub born : r.core.born ≡ x.born
-  pub floor : x.floor ≤ r.core.query
-  pub none : (obj : ℕ) → x.before.unpopulated obj → anyone_populates obj x.commands ≡ false → HasNoUnits r.core.units obj
+pub record UseIs (x : Scene) (c : CoreState) (seats : List Seat) : Type 0 where
+  pub log : c.log ≡ x.log
+  pub frontier : c.frontier ≡ x.frontier
+  pub born : c.born ≡ x.born
+  pub floor : x.floor ≤ c.query
+  pub none : (obj : ℕ) → x.before.unpopulated obj → anyone_populates obj x.commands ≡ false → HasNoUnits c.units obj
   pub filled : (session obj scn : ℕ) → has_abort x.commands ≡ false → others_populate session obj x.commands ≡ false
-      → WasPopulated x.before obj scn (told_so_far x.commands r.seats session) → NotRedefined x.log obj scn x.frontier
-      → (PopulatesNow r.core.sessions session obj → ⊥) → HasReadyUnits x.log r.core.units obj scn
-  pub building : (place : ℕ) (p : Population) → At r.core.sessions place (Populating p)
+      → WasPopulated x.before obj scn (told_so_far x.commands seats session) → NotRedefined x.log obj scn x.frontier
+      → (PopulatesNow c.sessions session obj → ⊥) → HasReadyUnits x.log c.units obj scn
+  pub building : (place : ℕ) (p : Population) → At c.sessions place (Populating p)
       → (x.floor ≤ p.snapshot) × (has_abort x.commands ≡ false → others_populate (place + 1) p.obj x.commands ≡ false → NotRedefined x.log p.obj p.snapshot x.frontier
-          → IsBuilding r.core.units p)
-  pub scans : (place : ℕ) (s : Scan) → At r.core.sessions place (Scanning s) → ScanUse x (place + 1) (told_so_far x.commands r.seats (place + 1)) s
-  pub answers : (session : ℕ) → AnswersUse x session (told_so_far x.commands r.seats session)
+          → IsBuilding c.units p)
+  pub scans : (place : ℕ) (s : Scan) → At c.sessions place (Scanning s) → ScanUse x (place + 1) (told_so_far x.commands seats (place + 1)) s
+  pub answers : (session : ℕ) → AnswersUse x session (told_so_far x.commands seats session)
 
 -- What stands once an ABORT was answered.
-pub record UseEnded (x : Scene) (r : Round) : Type 0 where
-  pub none : (obj : ℕ) → HasNoUnits r.core.units obj
-  pub born : r.core.born ≡ r.core.query
+pub record UseEnded (x : Scene) (c : CoreState) (seats : List Seat) : Type 0 where
+  pub none : (obj : ℕ) → HasNoUnits c.units obj
+  pub born : c.born ≡ c.query
   pub abort : has_abort x.commands ≡ true
-  pub answers : (session : ℕ) → AnswersUse x session (told_so_far x.commands r.seats session)
+  pub answers : (session : ℕ) → AnswersUse x session (told_so_far x.commands seats session)
 
-abbrev pub UseByAbort : Scene → Round → Bool → Type 0
-UseByAbort x r false = UseIs x r
-UseByAbort x r true = UseEnded x r
+abbrev pub UseByAbort : Scene → CoreState → List Seat → Bool → Type 0
+UseByAbort x c seats false = UseIs x c seats
+UseByAbort x c seats true = UseEnded x c seats
 
 -- the seats belong to the commands: each has what the texts of its session read as, and no more replies than these
 pub record SeatsAreOf (commands : List CommandText) (seats : List Seat) : Type 0 where
   pub asked : (c : CommandText) → Contains commands c → (1 ≤ c.session) × (c.session ≤ length seats)
   pub reads : (place : ℕ) (seat : Seat) → At seats place seat → AllZip Reads (texts_of (place + 1) commands) seat.requests
-  pub within : (place : ℕ) (seat : Seat) → At seats place seat → length seat.replies ≤ length seat.requests
 
 -- each turn keeps it
 abbrev pub TurnsKeepUse : Type 1
 TurnsKeepUse =
     (x : Scene) (schedule : List ℕ) (r : Round) (move : Option Move) (next : Round) → TakesTurn schedule r move next → RoundIs r → SeatsAreOf x.commands r.seats
-    → UseByAbort x r r.aborted → UseByAbort x next next.aborted
+    → UseByAbort x r.core r.seats r.aborted → UseByAbort x next.core next.seats next.aborted
