@@ -250,11 +250,35 @@ module _ (floor sessions : ℕ) (commands : List CommandText) (r : Round) (k : I
       calm none (inl a) = absurd (true≢false (sym (told_abort a) ∙ none))
       calm none (inr a) = record { up = none_down a; reached = reached k.over a }
 
+-- As a round begins.
+pub opening_legal : (c : CoreState) (d : CheckedDelivery) (received : CoreState) (seats : List Seat) → IsReady c d → Receives c d.entries d.frontier received → AreSeats (length c.sessions) d.commands seats
+    → LegalIs c.query d.commands received seats false
+opening_legal c d received seats ready receives read = record {
+  floor = omega (arith, query_is);
+  each = λ place seat session h k.
+      let seat_is = read.each place seat h in
+      let free : session ≡ Free = each_at (λ (s : Session). s ≡ Free) c.sessions place session ready.free (subst (λ xs. At xs place session) sessions_are k) in
+      let stand : stands_at received.query session ≡ c.query = ap (stands_at received.query) free ∙ query_is in
+      record {
+        reads = seat_is.reads;
+        meant = subst (AreMeant received.log received.frontier (texts_of (place + 1) d.commands)) (sym seat_is.unanswered) tt;
+        rises = subst (λ rs. Rises c.query (stands_at received.query session) (filter_map scn_of rs)) (sym seat_is.unanswered) (let l : c.query ≤ stands_at received.query session = omega arith in l);
+        synced = subst (SyncHolds received.frontier (stands_at received.query session)) (sym seat_is.unanswered) tt;
+      };
+  aborts = λ place seat h. subst NoneAborted (sym (read.each place seat h).unanswered) tt;
+}
+  where
+    query_is : received.query ≡ c.query
+    query_is = ap (λ (y : CoreState). y.query) receives.effect
+
+    sessions_are : received.sessions ≡ c.sessions
+    sessions_are = ap (λ (y : CoreState). y.sessions) receives.effect
+
 -- The last round of a delivery.
 pub last_of : TurnsAreThese → TurnsKeepRounds → RoundsBegin → (c : CoreState) (d : CheckedDelivery) (turns : List (Option Move)) (new : CoreState) (lines : Lines) → IsReady c d
     → (x : Delivers c d turns new lines) → IsLast c.query (length c.sessions) d.commands x.last
 last_of these keep begin c d turns new lines ready x = record {
-  stands = stands;
+  stands = plays_stand d.schedule keep (opening_round x.received x.seats) turns x.last begins x.plays;
   over = over_is x.last x.over;
   legal = kept.0;
   count = kept.1;
@@ -264,38 +288,13 @@ last_of these keep begin c d turns new lines ready x = record {
     begins : RoundIs (opening_round x.received x.seats)
     begins = begin c d x.received x.seats ready x.receives x.read
 
-    stands : RoundIs x.last
-    stands = plays_stand d.schedule keep (opening_round x.received x.seats) turns x.last begins x.plays
-
-    query_is : x.received.query ≡ c.query
-    query_is = ap (λ (y : CoreState). y.query) x.receives.effect
-
-    sessions_are : x.received.sessions ≡ c.sessions
-    sessions_are = ap (λ (y : CoreState). y.sessions) x.receives.effect
-
-    opening : LegalIs c.query d.commands x.received x.seats false
-    opening = record {
-      floor = omega arith;
-      each = λ place seat session h k.
-          let seat_is = x.read.each place seat h in
-          let free : session ≡ Free = each_at (λ (s : Session). s ≡ Free) c.sessions place session ready.free (subst (λ xs. At xs place session) sessions_are k) in
-          let stand : stands_at x.received.query session ≡ c.query = ap (stands_at x.received.query) free ∙ query_is in
-          record {
-            reads = seat_is.reads;
-            meant = subst (AreMeant x.received.log x.received.frontier (texts_of (place + 1) d.commands)) (sym seat_is.unanswered) tt;
-            rises = subst (λ rs. Rises c.query (stands_at x.received.query session) (filter_map scn_of rs)) (sym seat_is.unanswered) (omega arith);
-            synced = subst (SyncHolds x.received.frontier (stands_at x.received.query session)) (sym seat_is.unanswered) tt;
-          };
-      aborts = λ place seat h. subst NoneAborted (sym (x.read.each place seat h).unanswered) tt;
-    }
-
     kept : LegalIs c.query d.commands x.last.core x.last.seats x.last.aborted × (length x.last.seats ≡ length c.sessions)
     kept = plays_keep (λ r. LegalIs c.query d.commands r.core r.seats r.aborted × (length r.seats ≡ length c.sessions)) d.schedule keep
         (λ r move next is is' t h.
             let these_are = these d.schedule r move next is t in
             let many = as_many d.schedule r move next is t in
             (turn_legal c.query d.commands r next is is' these_are.0 these_are.1 h.0, many.seats ∙ h.1))
-        (opening_round x.received x.seats) turns x.last begins x.plays (opening, x.read.count)
+        (opening_round x.received x.seats) turns x.last begins x.plays (opening_legal c d x.received x.seats ready x.receives x.read, x.read.count)
 
 frontier_is : TurnsAreThese → TurnsKeepRounds → (schedule : List ℕ) (r : Round) (turns : List (Option Move)) (last : Round) → RoundIs r → Plays schedule r turns last
     → (last.core.frontier ≡ r.core.frontier) × (last.core.log ≡ r.core.log)

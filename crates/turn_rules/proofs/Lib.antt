@@ -20,3 +20,4 @@ pub mod WasTold
 pub mod Decimals
 pub mod UseSessions
 pub mod UseTurns
+pub mod UseEnd

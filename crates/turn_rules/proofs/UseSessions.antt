@@ -27,7 +27,7 @@ use Rattle.turn_rules.proofs.LegalLines.{text_back, text_abort}
 use Rattle.turn_rules.proofs.Use.{replies_of, told_so_far, IsSameUnit, UnitsStay, IsOwnUnit, IsBuilding, Scene, ReplyUse, AnswersUse, SeatsAreOf}
 
 -- what is told, with one reply more
-zip_more : {X Y : Type 0} (xs : List X) (ys : List Y) (x : X) (y : Y) → At xs (length ys) x → zip xs (ys ++ y ∷ []) ≡ zip xs ys ++ (x, y) ∷ []
+pub zip_more : {X Y : Type 0} (xs : List X) (ys : List Y) (x : X) (y : Y) → At xs (length ys) x → zip xs (ys ++ y ∷ []) ≡ zip xs ys ++ (x, y) ∷ []
 zip_more [] ys x y h = let e : None ≡ Some x = h in absurd cc
 zip_more (z ∷ xs) [] x y h = let e : Some z ≡ Some x = h in let f : z ≡ x = cc in ap (λ w. (w, y) ∷ zip xs []) f ∙ ap (λ ws. (x, y) ∷ ws) (zip_none xs)
   where
@@ -36,12 +36,12 @@ zip_more (z ∷ xs) [] x y h = let e : Some z ≡ Some x = h in let f : z ≡ x 
     zip_none (w ∷ ws) = refl
 zip_more (z ∷ xs) (w ∷ ys) x y h = ap (λ ws. (z, w) ∷ ws) (zip_more xs ys x y h)
 
-zip_empty : {X Y : Type 0} (xs : List X) (ys : List Y) → xs ≡ [] → zip xs ys ≡ []
+pub zip_empty : {X Y : Type 0} (xs : List X) (ys : List Y) → xs ≡ [] → zip xs ys ≡ []
 zip_empty xs ys e = ap (λ zs. zip zs ys) e
 
 -- there are no texts of session 0
-no_texts : (commands : List CommandText) (n : ℕ) → ((c : CommandText) → Contains commands c → 1 ≤ c.session) → texts_of 0 commands ≡ []
-no_texts commands n h = by_texts (texts_of 0 commands) refl
+pub no_texts : (commands : List CommandText) → ((c : CommandText) → Contains commands c → 1 ≤ c.session) → texts_of 0 commands ≡ []
+no_texts commands h = by_texts (texts_of 0 commands) refl
   where
     by_texts : (ts : List (List ℕ)) → texts_of 0 commands ≡ ts → texts_of 0 commands ≡ []
     by_texts [] e = e
@@ -54,8 +54,8 @@ no_texts commands n h = by_texts (texts_of 0 commands) refl
 pub told_other : (commands : List CommandText) (seats : List Seat) (place session : ℕ) (seat : Seat) → ((c : CommandText) → Contains commands c → 1 ≤ c.session) → (session ≡ place + 1 → ⊥)
     → told_so_far commands (slice_set seats place seat) session ≡ told_so_far commands seats session
 told_other commands seats place zero seat asked d =
-    zip_empty (texts_of 0 commands) (replies_of (slice_get (slice_set seats place seat) (0 - 1))) (no_texts commands 0 asked)
-    ∙ sym (zip_empty (texts_of 0 commands) (replies_of (slice_get seats (0 - 1))) (no_texts commands 0 asked))
+    zip_empty (texts_of 0 commands) (replies_of (slice_get (slice_set seats place seat) (0 - 1))) (no_texts commands asked)
+    ∙ sym (zip_empty (texts_of 0 commands) (replies_of (slice_get seats (0 - 1))) (no_texts commands asked))
 told_other commands seats place (suc n) seat asked d =
     let e : suc n - 1 ≡ n = omega arith in
     let other : n ≡ place → ⊥ = λ f. d (omega arith) in
