@@ -88,7 +88,7 @@ count_aborted true seats h =
     count_lines is_aborted seats ∙ seats_one is_aborted seats h.place h.seat h.found (aborted_last h.seat h.earlier h.scn h.last h.none) (λ n s d k. aborted_none s (h.others n s d k))
 
 -- the text of a command stands among its session's texts
-text_stands : (commands : List CommandText) (c : CommandText) → Contains commands c → Has (texts_of c.session commands) c.text
+pub text_stands : (commands : List CommandText) (c : CommandText) → Contains commands c → Has (texts_of c.session commands) c.text
 text_stands commands c h = has_filter_map (text_of c.session) commands c c.text (has commands c h) (ap (λ b. cond b (Some c.text) None) (eq-eqb c.session c.session refl))
 
 pub text_back : (commands : List CommandText) (session : ℕ) (t : List ℕ) → Has (texts_of session commands) t → (c : CommandText) × Contains commands c × (c.session ≡ session) × (c.text ≡ t)
@@ -117,7 +117,7 @@ pub record IsLast (floor sessions : ℕ) (commands : List CommandText) (r : Roun
 
 module _ (floor sessions : ℕ) (commands : List CommandText) (r : Round) (k : IsLast floor sessions commands r) where
   -- each seat stands at the QuerySCN
-  seat_is : (place : ℕ) (seat : Seat) → At r.seats place seat → SeatIs r.core.log r.core.frontier floor r.core.query (texts_of (place + 1) commands) seat
+  pub seat_is : (place : ℕ) (seat : Seat) → At r.seats place seat → SeatIs r.core.log r.core.frontier floor r.core.query (texts_of (place + 1) commands) seat
   seat_is place seat h =
       let within : place < length r.seats = at_within r.seats place seat h in
       let as_many : length r.seats ≡ length r.core.sessions = k.stands.seated in
@@ -200,7 +200,7 @@ module _ (floor sessions : ℕ) (commands : List CommandText) (r : Round) (k : I
           absurd (true≢false (sym yes ∙ no))
 
   -- and what was answered Aborted is an ABORT among the commands
-  told_abort : r.aborted ≡ true → list_any is_abort commands ≡ true
+  pub told_abort : r.aborted ≡ true → list_any is_abort commands ≡ true
   told_abort a =
       let one : OneAborted r.seats = subst (λ b. AbortsAre b r.seats) a k.legal.aborts in
       let is = seat_is one.place one.seat one.found in

@@ -21,3 +21,6 @@ pub mod Decimals
 pub mod UseSessions
 pub mod UseTurns
 pub mod UseEnd
+pub mod Joined
+pub mod ToldOn
+pub mod Whole

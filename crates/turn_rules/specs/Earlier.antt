@@ -3,6 +3,7 @@ use Rattle.std.specs.Prelude.{◌≡◌, ℕ, ◌<◌, nat_lt, false, if◌then�
 use Rattle.adg_base.specs.declared.log.LogEntry.{LogEntry}
 use Rattle.adg_base.specs.declared.command.CommandText.{CommandText}
 use Rattle.adg_base.specs.declared.answer.Lines.{Lines}
+use Rattle.adg_model.specs.Spelling.{IsObj}
 use Rattle.adg_model.specs.Transcript.{replies_that, is_aborted}
 use Rattle.core_rules.specs.Share.{NotRedefined}
 use Rattle.core_rules.specs.State.{Units}
@@ -13,8 +14,10 @@ pub record Past : Type 0 where
   pub commands : List CommandText
   pub lines : Lines
 
--- a session of the delivery was told last that the object is populated, at this SCN, and no other session populates it
+-- an object of which a session of the delivery was told last that it is populated, at this SCN; and no other session
+-- populates it
 pub record PopulatedIn (p : Past) (obj scn : ℕ) : Type 0 where
+  pub object : IsObj obj
   pub session : ℕ
   pub told : last_populated obj (told_to session p.commands p.lines) ≡ Some scn
   pub alone : others_populate session obj p.commands ≡ false

@@ -103,4 +103,4 @@ pub record TellsOn (c : CoreState) (d : CheckedDelivery) (new : CoreState) (line
 abbrev pub DeliveriesTellOn : Type 0
 DeliveriesTellOn =
     (c : CoreState) (d : CheckedDelivery) (turns : List (Option Move)) (new : CoreState) (lines : Lines) (pasts : List Past) → IsReady c d
-    → Promises c d turns new lines → UnitsAreTold c.log c.frontier c.units pasts → c.born ≡ born_by_lines pasts → TellsOn c d new lines pasts
+    → Delivers c d turns new lines → UnitsAreTold c.log c.frontier c.units pasts → c.born ≡ born_by_lines pasts → TellsOn c d new lines pasts
