@@ -139,11 +139,12 @@ turn_of_actor n u number h = by_case (cases_lt number (u % n))
     whole = div-add-mod u n
 
     by_case : (number < u % n) ⊎ (u % n ≤ number) → (i : ℕ) × (i < n) × ((u + i) % n ≡ number)
-    by_case (inr l) = (number - u % n, omega arith,
-        let e : u + (number - u % n) ≡ n * (u / n) + number = omega arith in
+    by_case (inr l) = (number - u % n, omega (arith, h, l),
+        let e : u + (number - u % n) ≡ n * (u / n) + number = omega (arith, whole, l) in
         ap (λ k. k % n) e ∙ mul-add-mod_self_left n (u / n) number ∙ mod-eq_of_lt h)
-    by_case (inl l) = (number + n - u % n, omega arith,
-        let e : u + (number + n - u % n) ≡ n * (u / n) + (n * 1 + number) = let one : n * 1 ≡ n = omega arith in omega arith in
+    by_case (inl l) = (number + n - u % n, omega (arith, h, l, rest),
+        let one : n * 1 ≡ n = omega arith in
+        let e : u + (number + n - u % n) ≡ n * (u / n) + (n * 1 + number) = omega (arith, whole, rest, l, one) in
         ap (λ k. k % n) e ∙ mul-add-mod_self_left n (u / n) (n * 1 + number) ∙ mul-add-mod_self_left n 1 number ∙ mod-eq_of_lt h)
 
 -- Behind the bytes, where the next turns of all actors are rests, all actors rest.

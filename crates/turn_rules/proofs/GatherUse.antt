@@ -214,12 +214,12 @@ module _ (c : CoreState) (s : Scan) (v : Invariant c) (p : Precise c) (is : Scan
 
       table_is : ready.table ≡ s.table
       table_is =
-          let now : table_at c.log s.scn s.select.obj ≡ Some ready.table = facts.same_table s.select.obj since s.scn ready.table low ready.defined (λ x i r a b. same x i r a (omega arith)) in
+          let now : table_at c.log s.scn s.select.obj ≡ Some ready.table = facts.same_table s.select.obj since s.scn ready.table low ready.defined (λ x i r a b. same x i r a (omega (arith, b, at, published, cut))) in
           let both : Some ready.table ≡ Some s.table = sym now ∙ is.defined in
           cc
 
       within : s.extents < ready.table.extents
-      within = let e : ready.table.extents ≡ s.table.extents = ap (λ (x : Table). x.extents) table_is in omega arith
+      within = let e : ready.table.extents ≡ s.table.extents = ap (λ (x : Table). x.extents) table_is in omega (arith, e, left)
 
       found : c.units s.select.obj s.extents ≡ Some (ready.each s.extents within).0
       found = (ready.each s.extents within).1
@@ -241,8 +241,8 @@ module _ (c : CoreState) (s : Scan) (v : Invariant c) (p : Precise c) (is : Scan
                 entry = w.entry;
                 within = w.within;
                 commits = w.commits;
-                above = omega arith;
-                upto = omega arith;
+                above = omega (arith, above, snapshot);
+                upto = omega (arith, upto, cut);
                 begin = w.begin;
                 begin_within = w.begin_within;
                 is_begin = w.is_begin;
@@ -253,7 +253,7 @@ module _ (c : CoreState) (s : Scan) (v : Invariant c) (p : Precise c) (is : Scan
       blocks = ap (λ o. count_from_blocks (look_at s.scn o) (rows_at c.log s.scn) (next_places s)) found ∙ by_columns (ready.each s.extents within).0.columns refl (ready.each s.extents within).2.ready
         where
           usable : (not (ready.each s.extents within).0.all && nat_le (ready.each s.extents within).0.snapshot s.scn) ≡ true
-          usable = and_from (not (ready.each s.extents within).0.all) (nat_le (ready.each s.extents within).0.snapshot s.scn) (ap not partly) (le-leb (ready.each s.extents within).0.snapshot s.scn (omega arith))
+          usable = and_from (not (ready.each s.extents within).0.all) (nat_le (ready.each s.extents within).0.snapshot s.scn) (ap not partly) (le-leb (ready.each s.extents within).0.snapshot s.scn (omega (arith, snapshot, low)))
 
           by_columns : (o : Option (List PlacedRow)) → (ready.each s.extents within).0.columns ≡ o → is_some (ready.each s.extents within).0.columns ≡ true
               → count_from_blocks (look_at s.scn (Some (ready.each s.extents within).0)) (rows_at c.log s.scn) (next_places s)
@@ -269,8 +269,8 @@ module _ (c : CoreState) (s : Scan) (v : Invariant c) (p : Precise c) (is : Scan
           let w = touched_commit c.log since s.scn a t in
           let above : since < w.scn = w.above in
           let upto : w.scn ≤ s.scn = w.upto in
-          by_cover a h w.touches ((v.units s.select.obj s.extents (ready.each s.extents within).0 found).covered w.txn w.scn w.commits (omega arith) (inl (omega arith))
-              (λ x i r b d. same x i r (omega arith) (omega arith)))
+          by_cover a h w.touches ((v.units s.select.obj s.extents (ready.each s.extents within).0 found).covered w.txn w.scn w.commits (omega (arith, above, snapshot)) (inl (omega (arith, upto, at)))
+              (λ x i r b d. same x i r (omega (arith, b, snapshot)) (omega (arith, d, upto, at, published, cut))))
         where
           by_cover : (a : Place) {t : ℕ} → Has (next_places s) a → Contains (touched t c.log) a → IsCovered c.log t s.select.obj s.extents (ready.each s.extents within).0 → (ready.each s.extents within).0.marked a ≡ true
           by_cover a h m (inl whole) = absurd (true≢false (sym whole ∙ partly))

@@ -144,7 +144,7 @@ module _ (floor sessions : ℕ) (commands : List CommandText) (r : Round) (k : I
       by_place (inr l) = subst P (sym (replies_to_none r.seats (suc place) (inr (omega arith)))) none
 
   rises : (session : ℕ) → Rises floor r.core.query (filter_map scn_of (replies_to session (seats_lines 1 r.seats)))
-  rises session = by_session (λ rs. Rises floor r.core.query (filter_map scn_of rs)) k.legal.floor (λ place seat h.
+  rises session = by_session (λ rs. Rises floor r.core.query (filter_map scn_of rs)) k.legal.low (λ place seat h.
       subst (Rises floor r.core.query) (sym (downs_scns seat.replies (length seat.requests - length seat.replies))) (seat_is place seat h).rises) session
 
   synced : (session : ℕ) → SyncHolds r.core.frontier r.core.query (replies_to session (seats_lines 1 r.seats))
@@ -254,7 +254,7 @@ module _ (floor sessions : ℕ) (commands : List CommandText) (r : Round) (k : I
 pub opening_legal : (c : CoreState) (d : CheckedDelivery) (received : CoreState) (seats : List Seat) → IsReady c d → Receives c d.entries d.frontier received → AreSeats (length c.sessions) d.commands seats
     → LegalIs c.query d.commands received seats false
 opening_legal c d received seats ready receives read = record {
-  floor = omega (arith, query_is);
+  low = omega (arith, query_is);
   each = λ place seat session h k.
       let seat_is = read.each place seat h in
       let free : session ≡ Free = each_at (λ (s : Session). s ≡ Free) c.sessions place session ready.free (subst (λ xs. At xs place session) sessions_are k) in

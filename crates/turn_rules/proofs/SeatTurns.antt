@@ -48,7 +48,7 @@ AbortsAre true seats = OneAborted seats
 
 -- What is carried of the seats through a round.
 pub record LegalIs (floor : ℕ) (commands : List CommandText) (c : CoreState) (seats : List Seat) (aborted : Bool) : Type 0 where
-  pub floor : floor ≤ c.query
+  pub low : floor ≤ c.query
   pub each : (place : ℕ) (seat : Seat) (session : Session) → At seats place seat → At c.sessions place session
       → SeatIs c.log c.frontier floor (stands_at c.query session) (texts_of (place + 1) commands) seat
   pub aborts : AbortsAre aborted seats
@@ -79,7 +79,7 @@ moved c new floor stand texts seat l f is = subst (λ n. SeatIs new.log n floor 
 crew_legal : (floor : ℕ) (commands : List CommandText) (c new : CoreState) (seats : List Seat) → Invariant new → new.sessions ≡ c.sessions → new.log ≡ c.log → new.frontier ≡ c.frontier → c.query ≤ new.query
     → LegalIs floor commands c seats false → LegalIs floor commands new seats false
 crew_legal floor commands c new seats v s l f q is = record {
-  floor = let old : floor ≤ c.query = is.floor in omega arith;
+  low = let old : floor ≤ c.query = is.low in omega arith;
   each = λ place seat session h k.
       let k' : At c.sessions place session = subst (λ xs. At xs place session) s k in
       let within : stands_at new.query session ≤ new.query = stand_within new v place session k in
@@ -178,13 +178,13 @@ module _ (floor : ℕ) (commands : List CommandText) (r next : Round) (place : �
           (moved r.core next.core floor stand (texts_of (n + 1) commands) s keeps.log keeps.frontier k)
 
   floor_on : floor ≤ next.core.query
-  floor_on = let old : floor ≤ r.core.query = is.floor in let e : next.core.query ≡ r.core.query = keeps.query in omega arith
+  floor_on = let old : floor ≤ r.core.query = is.low in let e : next.core.query ≡ r.core.query = keeps.query in omega arith
 
   -- nothing is told, and the session goes on where it stood
   goes_on : (what : Session) → told ≡ None → next.aborted ≡ false → stands_at r.core.query what ≡ stands_at r.core.query session → next.core.sessions ≡ slice_set r.core.sessions place what
       → LegalIs floor commands next.core next.seats next.aborted
   goes_on what t b same sessions = subst (LegalIs floor commands next.core next.seats) (sym b) (record {
-    floor = floor_on;
+    low = floor_on;
     each = λ n s x h k. by_place n s x (subst (λ xs. At xs n s) seats h) k (set_sessions place what r.core.sessions next.core.sessions sessions n x k);
     aborts = subst (AbortsAre false) (sym seats) is.aborts;
   })
@@ -203,7 +203,7 @@ module _ (floor : ℕ) (commands : List CommandText) (r next : Round) (place : �
   tells : (what : Session) (said : Reply) → told ≡ Some said → next.aborted ≡ false → stands_at r.core.query session ≤ stands_at r.core.query what → SessionsAre place what r.core.sessions next.core.sessions
       → IsSaid r.core (stands_at r.core.query session) text_at_hand.0 said → LegalIs floor commands next.core next.seats next.aborted
   tells what said t b l sessions is_said = subst (LegalIs floor commands next.core next.seats) (sym b) (record {
-    floor = floor_on;
+    low = floor_on;
     each = λ n s x h k. by_place n s x (at_set_cases r.seats place n s (with_reply said seat) (subst (λ xs. At xs n s) seats h)) k (sessions n x k);
     aborts = λ n s h. none_yet n s (at_set_cases r.seats place n s (with_reply said seat) (subst (λ xs. At xs n s) seats h));
   })
@@ -232,7 +232,7 @@ module _ (floor : ℕ) (commands : List CommandText) (r next : Round) (place : �
   -- ABORT is answered: all sessions are free afterwards
   aborts : request ≡ Asks command.Abort → session ≡ Free → told ≡ Some (reply.Aborted r.core.query) → next.aborted ≡ true → next.core ≡ restarted r.core → LegalIs floor commands next.core next.seats next.aborted
   aborts asks free t b same = subst (LegalIs floor commands next.core next.seats) (sym b) (record {
-    floor = floor_on;
+    low = floor_on;
     each = λ n s x h k. by_place n s x (at_set_cases r.seats place n s (with_reply (reply.Aborted r.core.query) seat) (subst (λ xs. At xs n s) seats h)) k (all_free n x k);
     aborts = record {
       place = place;
@@ -277,7 +277,7 @@ module _ (floor : ℕ) (commands : List CommandText) (r next : Round) (place : �
           over_new n x s (stands_at r.core.query y.0) (omega arith) k (is.each n s y.0 h.1 y.1)
       by_place n s x (inl h) k f =
           let high : stands_at r.core.query x ≡ r.core.query = ap (stands_at r.core.query) f in
-          over_new n x s (stands_at r.core.query session) (omega arith) k
+          over_new n x s (stands_at r.core.query session) (omega (arith, stand_is, high)) k
               (subst (λ (z : Seat). SeatIs r.core.log r.core.frontier floor (stands_at r.core.query session) (texts_of (n + 1) commands) z) (sym h.1)
                   (subst (λ m. SeatIs r.core.log r.core.frontier floor (stands_at r.core.query session) (texts_of (m + 1) commands) (with_reply (reply.Aborted r.core.query) seat)) (sym h.0) more))
 

@@ -34,7 +34,7 @@ use Rattle.turn_rules.proofs.CrewKept.{crew_keeps}
 pub record RedefinedWithin (c : CoreState) (obj low high : ℕ) : Type 0 where
   pub entry : LogEntry
   pub within : Contains c.log entry
-  pub redefines : redefines obj entry.vector ≡ true
+  pub changes : redefines obj entry.vector ≡ true
   pub above : low < entry.scn
   pub upto : entry.scn ≤ high
 
@@ -107,7 +107,7 @@ drop_entry c v n l obj h k = by_sort (has_append_cases (map node_item (flush_nod
         record {
           entry = g.0;
           within = shares_log (length c.workers) c.log g.0 g.1;
-          redefines = subst (λ o. redefines o g.0.vector ≡ true) own r.0;
+          changes = subst (λ o. redefines o g.0.vector ≡ true) own r.0;
           above = omega arith;
           upto = omega arith;
         }
@@ -147,7 +147,7 @@ module _ (c new : CoreState) (v : Invariant c) (actor : ℕ) (r : Touches c acto
           let above : c.query < d.entry.scn = d.above in
           let upto : d.entry.scn ≤ limit c = d.upto in
           let cut : limit c ≤ c.frontier = v.numbers.cut in
-          n d.entry d.within d.redefines (omega arith) (omega arith)
+          n d.entry d.within d.changes (omega arith) (omega arith)
 
       by_shard : (shard_of_unit obj extent ≡ r.shard) ⊎ (shard_of_unit obj extent ≡ r.shard → ⊥) → IsSameUnit (c.units obj extent) (r.units obj extent)
       by_shard (inl e) = touched_unit r.link.items r.collected obj extent (c.units obj extent) (r.units obj extent) no_drops (r.touched obj extent e)

@@ -103,33 +103,33 @@ pub record AtHand (commands : List CommandText) (place : ℕ) (seat : Seat) (req
   pub text : List ℕ
   pub at : At (texts_of (place + 1) commands) (length seat.replies) text
   pub reads : Reads text request
-  pub command : CommandText
-  pub within : Contains commands command
-  pub session : command.session ≡ place + 1
-  pub is : command.text ≡ text
+  pub given : CommandText
+  pub within : Contains commands given
+  pub session : given.session ≡ place + 1
+  pub is : given.text ≡ text
 
 pub text_at_hand : (commands : List CommandText) (seats : List Seat) (place : ℕ) (seat : Seat) (request : Request) → SeatsAreOf commands seats → At seats place seat → at_hand seat ≡ Some request → AtHand commands place seat request
 text_at_hand commands seats place seat request so h asks =
     let t = zip_at Reads (texts_of (place + 1) commands) seat.requests (length seat.replies) request (so.reads place seat h) asks in
     let c = text_back commands (place + 1) t.0 (has_at (texts_of (place + 1) commands) (length seat.replies) t.0 t.1) in
-    record { text = t.0; at = t.1; reads = t.2; command = c.0; within = c.1; session = c.2; is = c.3 }
+    record { text = t.0; at = t.1; reads = t.2; given = c.0; within = c.1; session = c.2; is = c.3 }
 
 pub spelled_populates : (text : List ℕ) (obj : ℕ) → Spells text (command.Populate obj) → populates obj text ≡ true
 spelled_populates text obj h = (bytes_eq-Decides text (command_bytes (command.Populate obj))).1 h.1
 
-command_populates : (commands : List CommandText) (place : ℕ) (seat : Seat) (obj : ℕ) → (k : AtHand commands place seat (Asks (command.Populate obj))) → populates obj k.command.text ≡ true
+command_populates : (commands : List CommandText) (place : ℕ) (seat : Seat) (obj : ℕ) → (k : AtHand commands place seat (Asks (command.Populate obj))) → populates obj k.given.text ≡ true
 command_populates commands place seat obj k = subst (λ t. populates obj t ≡ true) (sym k.is) (spelled_populates k.text obj k.reads)
 
 pub anyone_does : (commands : List CommandText) (place : ℕ) (seat : Seat) (obj : ℕ) → AtHand commands place seat (Asks (command.Populate obj)) → anyone_populates obj commands ≡ true
-anyone_does commands place seat obj k = any_contains (λ (c : CommandText). populates obj c.text) commands k.command k.within (command_populates commands place seat obj k)
+anyone_does commands place seat obj k = any_contains (λ (c : CommandText). populates obj c.text) commands k.given k.within (command_populates commands place seat obj k)
 
 pub others_do : (commands : List CommandText) (place session : ℕ) (seat : Seat) (obj : ℕ) → AtHand commands place seat (Asks (command.Populate obj)) → (session ≡ place + 1 → ⊥) → others_populate session obj commands ≡ true
-others_do commands place session seat obj k d = any_contains (λ (c : CommandText). not (c.session == session) && populates obj c.text) commands k.command k.within
-    (and_from (not (k.command.session == session)) (populates obj k.command.text)
-        (ap not (ne_eqb k.command.session session (λ e. d (sym e ∙ k.session)))) (command_populates commands place seat obj k))
+others_do commands place session seat obj k d = any_contains (λ (c : CommandText). not (c.session == session) && populates obj c.text) commands k.given k.within
+    (and_from (not (k.given.session == session)) (populates obj k.given.text)
+        (ap not (ne_eqb k.given.session session (λ e. d (sym e ∙ k.session)))) (command_populates commands place seat obj k))
 
 pub aborts_do : (commands : List CommandText) (place : ℕ) (seat : Seat) → AtHand commands place seat (Asks command.Abort) → has_abort commands ≡ true
-aborts_do commands place seat k = any_contains is_abort commands k.command k.within (text_abort k.command (subst (λ t. Spells t command.Abort) (sym k.is) k.reads))
+aborts_do commands place seat k = any_contains is_abort commands k.given k.within (text_abort k.given (subst (λ t. Spells t command.Abort) (sym k.is) k.reads))
 
 -- Ready units stay where units do, and their SCN is published.
 pub ready_stay : (log : List LogEntry) (old new : Units) (obj scn : ℕ) → UnitsStay old new obj → HasReadyUnits log old obj scn → HasReadyUnits log new obj scn
