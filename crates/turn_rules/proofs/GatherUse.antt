@@ -269,12 +269,12 @@ module _ (c : CoreState) (s : Scan) (v : Invariant c) (p : Precise c) (is : Scan
           let w = touched_commit c.log since s.scn a t in
           let above : since < w.scn = w.above in
           let upto : w.scn ≤ s.scn = w.upto in
-          by_cover a h w.touches ((v.units s.select.obj s.extents (ready.each s.extents within).0 found).covered w.txn w.scn w.commits (omega (arith, above, snapshot)) (inl (omega (arith, upto, at)))
+          by_cover a w.txn h w.touches ((v.units s.select.obj s.extents (ready.each s.extents within).0 found).covered w.txn w.scn w.commits (omega (arith, above, snapshot)) (inl (omega (arith, upto, at)))
               (λ x i r b d. same x i r (omega (arith, b, snapshot)) (omega (arith, d, upto, at, published, cut))))
         where
-          by_cover : (a : Place) {t : ℕ} → Has (next_places s) a → Contains (touched t c.log) a → IsCovered c.log t s.select.obj s.extents (ready.each s.extents within).0 → (ready.each s.extents within).0.marked a ≡ true
-          by_cover a h m (inl whole) = absurd (true≢false (sym whole ∙ partly))
-          by_cover a h m (inr each) = each a m (extent_holds s.select.obj s.extents a h)
+          by_cover : (a : Place) (t : ℕ) → Has (next_places s) a → Contains (touched t c.log) a → IsCovered c.log t s.select.obj s.extents (ready.each s.extents within).0 → (ready.each s.extents within).0.marked a ≡ true
+          by_cover a t h m (inl whole) = absurd (true≢false (sym whole ∙ partly))
+          by_cover a t h m (inr each) = each a m (extent_holds s.select.obj s.extents a h)
 
       -- and what is marked was touched up to the frontier
       precise : (a : Place) → Has (next_places s) a → (ready.each s.extents within).0.marked a ≡ true → is_touched c.log since c.frontier a ≡ true

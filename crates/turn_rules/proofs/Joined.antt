@@ -17,7 +17,7 @@ use Rattle.turn_rules.proofs.Ended.{as_many}
 use Rattle.turn_rules.proofs.LegalLines.{last_of, received_is}
 
 pub deliveries_keep_promises : TurnsAreThese → TurnsKeepRounds → RoundsBegin → RoundsAreRuns → LinesAreLegal → UseIsMet → UnitsAreStated → DeliveriesKeepPromises
-deliveries_keep_promises these keep begin runs legal use stated c d turns new lines ready x = record {
+deliveries_keep_promises these keep begin runs legal met stated c d turns new lines ready x = record {
   leads = (x.received, x.receives, subst (Leads x.received (moves_of turns)) (sym x.core) run.leads);
   taken = run.taken;
   invariant = subst Invariant (sym x.core) run.stands.core;
@@ -27,7 +27,7 @@ deliveries_keep_promises these keep begin runs legal use stated c d turns new li
   workers = ap (λ (y : CoreState). length y.workers) x.core ∙ workers ∙ ap (λ (y : CoreState). length y.workers) x.receives.effect;
   sessions = ap (λ (y : CoreState). length y.sessions) x.core ∙ sym run.stands.seated ∙ (last_of these keep begin c d turns new lines ready x).count;
   legal = legal c d turns new lines ready x;
-  columns = use c d turns new lines ready x;
+  columns = met c d turns new lines ready x;
   end = ap (λ (l : Lines). l.end) x.says ∙ sym (ap (λ (y : CoreState). y.query) x.core);
   free = subst (λ (y : CoreState). AllByRecursion (λ (s : Session). s ≡ Free) y.sessions) (sym x.core) (all_free x.last run.stands (over_is x.last x.over));
   after = stated c d turns new lines ready x;

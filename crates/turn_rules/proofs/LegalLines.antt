@@ -37,11 +37,18 @@ use Rattle.turn_rules.proofs.Over.{IsOver, ByAbort, ByEnd, over_is, through_leng
 -- counts
 count_all_false : {X : Type 0} (p : X → Bool) (xs : List X) → AllByRecursion (λ x. p x ≡ false) xs → count_by p xs ≡ 0
 count_all_false p [] h = refl
-count_all_false p (x ∷ xs) h = count_cons p x xs ∙ ap (λ b. cond {A = ℕ} b 1 0 + count_by p xs) h.0 ∙ count_all_false p xs h.1
+count_all_false p (x ∷ xs) h =
+    let a = count_cons p x xs in
+    let b : cond {A = ℕ} (p x) 1 0 ≡ 0 = ap (λ t. cond {A = ℕ} t 1 0) h.0 in
+    let ih = count_all_false p xs h.1 in
+    omega arith
 
 count_down_aborted : (k : ℕ) → count_by is_aborted (replicate k Down) ≡ 0
 count_down_aborted zero = refl
-count_down_aborted (suc k) = count_cons is_aborted Down (replicate k Down) ∙ count_down_aborted k
+count_down_aborted (suc k) =
+    let a : count_by is_aborted (Down ∷ replicate k Down) ≡ 0 + count_by is_aborted (replicate k Down) = count_cons is_aborted Down (replicate k Down) in
+    let ih = count_down_aborted k in
+    omega arith
 
 aborted_none : (seat : Seat) → NoneAborted seat.replies → count_by is_aborted (all_replies seat) ≡ 0
 aborted_none seat h =

@@ -1,7 +1,7 @@
 -- What is carried of each seat for the legality of lines, and how a reply more keeps it.
 use Rattle.std.proofs.Common.{◌≡◌, ℕ, zero, suc, ◌+◌, ◌-◌, ◌<◌, ◌≤◌, Bool, true, false, cond, List, [], ◌∷◌, ◌++◌, length, replicate, Option, Some, None, ◌⊎◌, inl, inr, refl, sym, ap, ◌∙◌, subst, arith, true≢false}
 use Rattle.std.specs.Prelude.{slice_get}
-use Rattle.std.specs.List.{AllByRecursion, AllZip, filter_map, count_by}
+use Rattle.std.specs.List.{AllByRecursion, AllZip, filter_map, count_by, cons_option}
 use Rattle.std.proofs.lemmas.List.Elements.{filter_map-append}
 use Rattle.adg_base.specs.declared.log.LogEntry.{LogEntry}
 use Rattle.adg_base.specs.declared.command.Command.{Command}
@@ -119,11 +119,7 @@ pub record SaysAt (frontier stand : ℕ) (said : Reply) : Type 0 where
   pub synced : SyncHolds frontier stand (said ∷ [])
 
 scn_more : (rs : List Reply) (said : Reply) (stand : ℕ) → scn_of said ≡ Some stand → filter_map scn_of (rs ++ said ∷ []) ≡ filter_map scn_of rs ++ stand ∷ []
-scn_more rs said stand h = filter_map-append scn_of rs (said ∷ []) ∙ ap (λ o. filter_map scn_of rs ++ one o) h
-  where
-    one : Option ℕ → List ℕ
-    one None = []
-    one (Some q) = q ∷ []
+scn_more rs said stand h = filter_map-append scn_of rs (said ∷ []) ∙ ap (λ o. filter_map scn_of rs ++ cons_option o []) h
 
 pub sync_more : (f stand : ℕ) (rs : List Reply) (said : Reply) → SaysAt f stand said → SyncHolds f stand rs → SyncHolds f stand (rs ++ said ∷ [])
 sync_more f stand [] said s h = s.synced

@@ -53,12 +53,12 @@ was_told log units pasts obj since told h w = by_last (last_populated obj told) 
 use_by_lines : (log : List LogEntry) (frontier floor born : ℕ) (units : Units) (pasts : List Past) (commands : List CommandText) (lines : Lines)
     → ((obj since : ℕ) → NotRedefined log obj since frontier → PopulatedLast pasts obj since → HasReadyUnits log units obj since) → ((obj : ℕ) → NeverPopulated pasts obj → HasNoUnits units obj)
     → ColumnUse log frontier floor born (told_by_units log units) commands lines → ColumnUse log frontier floor born (told_by_lines pasts) commands lines
-use_by_lines log frontier floor born units pasts commands lines ready none use = record {
-  rows = λ session earlier select table scn col row since a w n. use.rows session earlier select table scn col row since a
+use_by_lines log frontier floor born units pasts commands lines ready none met = record {
+  rows = λ session earlier select table scn col row since a w n. met.rows session earlier select table scn col row since a
       (was_told log units pasts select.obj since earlier (ready select.obj since n.same) w) n;
-  plain = use.plain;
-  unpopulated = λ session earlier select table scn col row a n o. use.unpopulated session earlier select table scn col row a (none select.obj n) o;
-  units = use.units;
+  plain = met.plain;
+  unpopulated = λ session earlier select table scn col row a n o. met.unpopulated session earlier select table scn col row a (none select.obj n) o;
+  units = met.units;
 }
 
 -- Who was told of an object that it is populated was told so at some SCN last.
@@ -188,11 +188,11 @@ module _ (c : CoreState) (d : CheckedDelivery) (received : CoreState) (v : Invar
 
 object_of : (pasts : List Past) (obj scn : ℕ) → PopulatedLast pasts obj scn → IsObj obj
 object_of [] obj scn h = absurd h
-object_of (p ∷ pasts) obj scn h = by_past h.1
+object_of (p ∷ pasts) obj scn h = by_past h.1 (λ k. object_of pasts obj scn k)
   where
-    by_past : PopulatedIn p obj scn ⊎ (NoneTold p obj × PopulatedLast pasts obj scn) → IsObj obj
-    by_past (inl q) = q.object
-    by_past (inr q) = object_of pasts obj scn q.1
+    by_past : PopulatedIn p obj scn ⊎ (NoneTold p obj × PopulatedLast pasts obj scn) → (PopulatedLast pasts obj scn → IsObj obj) → IsObj obj
+    by_past (inl q) later = q.object
+    by_past (inr q) later = later q.1
 
 pub deliveries_tell_on : TurnsAreThese → TurnsKeepRounds → RoundsBegin → DeliveriesKeepPromises → DeliveriesTellOn
 deliveries_tell_on these keep begin promised c d turns new lines pasts ready x told born = record {

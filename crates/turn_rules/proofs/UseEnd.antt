@@ -28,7 +28,7 @@ use Rattle.turn_rules.proofs.Over.{IsOver, over_is, over_free, plays_keep, plays
 use Rattle.turn_rules.proofs.Ended.{as_many}
 use Rattle.turn_rules.proofs.LegalLines.{last_of, opening_legal, received_is, aborted_once}
 use Rattle.turn_rules.proofs.WasTold.{last_left, was_same}
-use Rattle.turn_rules.proofs.UseSessions.{zip_more, zip_empty, no_texts, answers_more}
+use Rattle.turn_rules.proofs.UseSessions.{zip_more, zip_nothing, zip_empty, no_texts, answers_more}
 use Rattle.turn_rules.proofs.Waits.{get_beyond}
 use Rattle.turn_rules.proofs.Use.{replies_of, told_so_far, Scene, ReplyUse, AnswersUse, PopulatesNow, UseIs, UseEnded, UseByAbort, SeatsAreOf, TurnsKeepUse}
 
@@ -44,10 +44,6 @@ scene c d = record {
 }
 
 -- as a round begins nothing was told
-zip_nothing : {X Y : Type 0} (xs : List X) → zip {X = Y} xs [] ≡ []
-zip_nothing [] = refl
-zip_nothing (x ∷ xs) = refl
-
 told_nothing : (commands : List CommandText) (seats : List Seat) → ((place : ℕ) (seat : Seat) → At seats place seat → seat.replies ≡ []) → (session : ℕ) → told_so_far commands seats session ≡ []
 told_nothing commands seats h session = ap (zip (texts_of session commands)) (none (slice_get seats (session - 1)) refl) ∙ zip_nothing (texts_of session commands)
   where
@@ -56,8 +52,8 @@ told_nothing commands seats h session = ap (zip (texts_of session commands)) (no
     none (Some seat) e = ap replies_of e ∙ h (session - 1) seat e
 
 nothing_answered : (x : Scene) (session : ℕ) → AnswersUse x session []
-nothing_answered x session [] later text said e = let k : [] ≡ (text, said) ∷ later = e in absurd cc
-nothing_answered x session (t ∷ earlier) later text said e = let k : [] ≡ t ∷ (earlier ++ (text, said) ∷ later) = e in absurd cc
+nothing_answered x session [] later text said e = let k : ◌≡◌ {A = List Told} [] ((text, said) ∷ later) = e in absurd cc
+nothing_answered x session (t ∷ earlier) later text said e = let k : ◌≡◌ {A = List Told} [] (t ∷ (earlier ++ (text, said) ∷ later)) = e in absurd cc
 
 begins_use : (c : CoreState) (d : CheckedDelivery) (received : CoreState) (seats : List Seat) → IsReady c d → Receives c d.entries d.frontier received → AreSeats (length c.sessions) d.commands seats
     → UseIs (scene c d) received seats
@@ -188,10 +184,10 @@ used x r h = record {
 pub use_is_met : TurnsAreThese → TurnsKeepRounds → RoundsBegin → TurnsKeepUse → UseIsMet
 use_is_met these keep begin keep_use c d turns new lines ready x =
     let u = use_of these keep begin keep_use c d turns new lines ready x in
-    let use = used (scene c d) x.last (answers_of (scene c d) x.last (λ k h. (each_contains (IsOfSession (length c.sessions)) d.commands k ready.asked h).0) x.last.aborted u) in
+    let met = used (scene c d) x.last (answers_of (scene c d) x.last (λ k h. (each_contains (IsOfSession (length c.sessions)) d.commands k ready.asked h).0) x.last.aborted u) in
     let log : new.log ≡ c.log ++ d.entries = ap (λ (y : CoreState). y.log) x.core ∙ (received_is these keep begin c d turns new lines ready x).1 in
     subst (λ (l : Lines). ColumnUse new.log d.frontier c.query c.born (told_by_units new.log c.units) d.commands l) (sym x.says)
-        (subst (λ l. ColumnUse l d.frontier c.query c.born (told_by_units l c.units) d.commands (lines_of x.last)) (sym log) use)
+        (subst (λ l. ColumnUse l d.frontier c.query c.born (told_by_units l c.units) d.commands (lines_of x.last)) (sym log) met)
 
 -- the units afterwards
 stated : (x : Scene) (r : Round) → ((c : CommandText) → Contains x.commands c → 1 ≤ c.session) → (aborted : Bool) → ((place : ℕ) (s : Session) → At r.core.sessions place s → s ≡ Free) → replies_that is_aborted (lines_of r).list ≡ cond aborted 1 0 → UseByAbort x r.core r.seats aborted

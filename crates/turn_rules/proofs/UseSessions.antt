@@ -27,14 +27,17 @@ use Rattle.turn_rules.proofs.LegalLines.{text_back, text_abort}
 use Rattle.turn_rules.proofs.Use.{replies_of, told_so_far, IsSameUnit, UnitsStay, IsOwnUnit, IsBuilding, Scene, ReplyUse, AnswersUse, SeatsAreOf}
 
 -- what is told, with one reply more
+pub zip_nothing : {X Y : Type 0} (xs : List X) → zip {X = Y} xs [] ≡ []
+zip_nothing [] = refl
+zip_nothing (x ∷ xs) = refl
+
+abbrev with_pair : {X Y : Type 0} → X → Y → List (X × Y) → List (X × Y)
+with_pair x y ps = (x, y) ∷ ps
+
 pub zip_more : {X Y : Type 0} (xs : List X) (ys : List Y) (x : X) (y : Y) → At xs (length ys) x → zip xs (ys ++ y ∷ []) ≡ zip xs ys ++ (x, y) ∷ []
 zip_more [] ys x y h = let e : None ≡ Some x = h in absurd cc
-zip_more (z ∷ xs) [] x y h = let e : Some z ≡ Some x = h in let f : z ≡ x = cc in ap (λ w. (w, y) ∷ zip xs []) f ∙ ap (λ ws. (x, y) ∷ ws) (zip_none xs)
-  where
-    zip_none : (ws : List _) → zip ws [] ≡ []
-    zip_none [] = refl
-    zip_none (w ∷ ws) = refl
-zip_more (z ∷ xs) (w ∷ ys) x y h = ap (λ ws. (z, w) ∷ ws) (zip_more xs ys x y h)
+zip_more (z ∷ xs) [] x y h = let e : Some z ≡ Some x = h in let f : z ≡ x = cc in ap (λ w. with_pair w y (zip xs [])) f ∙ ap (with_pair x y) (zip_nothing xs)
+zip_more (z ∷ xs) (w ∷ ys) x y h = ap (with_pair z w) (zip_more xs ys x y h)
 
 pub zip_empty : {X Y : Type 0} (xs : List X) (ys : List Y) → xs ≡ [] → zip xs ys ≡ []
 zip_empty xs ys e = ap (λ zs. zip zs ys) e
@@ -92,7 +95,7 @@ snoc_cases (x ∷ xs) (w ∷ ys) zs y z h =
 pub answers_more : (x : Scene) (session : ℕ) (told : List Told) (t : List ℕ) (said : Reply) → AnswersUse x session told → ReplyUse x session told t said → AnswersUse x session (told ++ (t, said) ∷ [])
 answers_more x session told t said old new earlier later text r e = by_case (snoc_cases told earlier later (t, said) (text, r) e)
   where
-    by_case : ((earlier ≡ told) × ((text, r) ≡ (t, said))) ⊎ ((ws : List Told) × (told ≡ earlier ++ (text, r) ∷ ws)) → ReplyUse x session earlier text r
+    by_case : ((earlier ≡ told) × (◌≡◌ {A = Told} (text, r) (t, said))) ⊎ ((ws : List Told) × (told ≡ earlier ++ (text, r) ∷ ws)) → ReplyUse x session earlier text r
     by_case (inr p) = old earlier p.0 text r p.1
     by_case (inl p) =
         subst (λ es. ReplyUse x session es text r) (sym p.0)

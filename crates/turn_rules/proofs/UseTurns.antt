@@ -156,12 +156,12 @@ module _ (x : Scene) (r next : Round) (place : ℕ) (seat : Seat) (session : Ses
   told_here said t = ap (λ ss. told_so_far x.commands ss (place + 1)) (seats_said said t) ∙ told_own x.commands r.seats place seat said hand.text at.seated hand.at
 
   answers_then : (said : Reply) → told ≡ Some said → ReplyUse x (place + 1) (told_so_far x.commands r.seats (place + 1)) hand.text said → (n : ℕ) → AnswersUse x n (told_so_far x.commands next.seats n)
-  answers_then said t use n = by_session (cases_eq n (place + 1))
+  answers_then said t met n = by_session (cases_eq n (place + 1))
     where
       by_session : (n ≡ place + 1) ⊎ (n ≡ place + 1 → ⊥) → AnswersUse x n (told_so_far x.commands next.seats n)
       by_session (inr d) = subst (AnswersUse x n) (sym (told_elsewhere said t n d)) (u.answers n)
       by_session (inl e) = subst (λ m. AnswersUse x m (told_so_far x.commands next.seats m)) (sym e)
-          (subst (AnswersUse x (place + 1)) (sym (told_here said t)) (answers_more x (place + 1) (told_so_far x.commands r.seats (place + 1)) hand.text said (u.answers (place + 1)) use))
+          (subst (AnswersUse x (place + 1)) (sym (told_here said t)) (answers_more x (place + 1) (told_so_far x.commands r.seats (place + 1)) hand.text said (u.answers (place + 1)) met))
 
   -- where a reply says nothing of an object, what was populated last is as before
   was_before : (said : Reply) → told ≡ Some said → (n obj scn : ℕ) → populated_by obj (hand.text, said) ≡ None → WasPopulated x.before obj scn (told_so_far x.commands next.seats n)
@@ -335,7 +335,7 @@ module _ (x : Scene) (r next : Round) (place : ℕ) (seat : Seat) (session : Ses
       → ((n : ℕ) (p : Population) → (n ≡ place → ⊥) → others_populate (n + 1) p.obj x.commands ≡ false → (e : ℕ) → units p.obj e ≡ r.core.units p.obj e)
       → ReplyUse x (place + 1) (told_so_far x.commands r.seats (place + 1)) hand.text said
       → UseIs x next.core next.seats
-  tells said units t sessions pops units_are born unpopulated filled others use = record {
+  tells said units t sessions pops units_are born unpopulated filled others met = record {
     log = keeps.log ∙ u.log;
     frontier = keeps.frontier ∙ u.frontier;
     born = born ∙ u.born;
@@ -344,7 +344,7 @@ module _ (x : Scene) (r next : Round) (place : ℕ) (seat : Seat) (session : Ses
     filled = filled;
     building = λ n p h. building_now n p (sessions n (Populating p) h);
     scans = λ n s h. scans_now n s (sessions n (Scanning s) h);
-    answers = answers_then said t use;
+    answers = answers_then said t met;
   }
     where
       building_now : (n : ℕ) (p : Population) → ((n ≡ place) × (Populating p ≡ Free)) ⊎ ((n ≡ place → ⊥) × At r.core.sessions n (Populating p))
@@ -364,11 +364,11 @@ module _ (x : Scene) (r next : Round) (place : ℕ) (seat : Seat) (session : Ses
       → ((n obj : ℕ) → (n ≡ place + 1 → ⊥) → PopulatesNow r.core.sessions n obj → PopulatesNow next.core.sessions n obj)
       → ((obj : ℕ) → PopulatesNow r.core.sessions (place + 1) obj → ⊥)
       → ReplyUse x (place + 1) (told_so_far x.commands r.seats (place + 1)) hand.text said → UseIs x next.core next.seats
-  tells_plain said t plain units born sessions pops none use =
+  tells_plain said t plain units born sessions pops none met =
       tells said r.core.units t sessions pops units born (λ obj b e. refl)
           (λ n obj scn a o w m d. subst (λ us. HasReadyUnits x.log us obj scn) (sym units)
               (u.filled n obj scn a o (was_before said t n obj scn (plain_silent said plain obj) w) m (λ k. before n obj d k (cases_eq n (place + 1)))))
-          (λ n p d o e. refl) use
+          (λ n p d o e. refl) met
     where
       before : (n obj : ℕ) → (PopulatesNow next.core.sessions n obj → ⊥) → PopulatesNow r.core.sessions n obj → (n ≡ place + 1) ⊎ (n ≡ place + 1 → ⊥) → ⊥
       before n obj d k (inl e) = none obj (subst (λ m. PopulatesNow r.core.sessions m obj) e k)
@@ -454,7 +454,7 @@ module _ (x : Scene) (r next : Round) (place : ℕ) (seat : Seat) (session : Ses
   scan_ends : (s : Scan) → session ≡ Scanning s → request ≡ Asks (command.Select s.select) → told ≡ Some (scan_reply s) → s.table.extents ≤ s.extents → next.core ≡ with_session r.core place Free → UseIs x next.core next.seats
   scan_ends s is_s asks t whole effect =
       tells_plain (scan_reply s) t refl (ap (λ (y : CoreState). y.units) effect) (ap (λ (y : CoreState). y.born) effect) (session_now Free sessions)
-          (λ n obj d k. still_populates Free sessions n obj d k) (not_populating (Scanning s) is_s (λ p e. let k : Populating p ≡ Scanning s = e in cc)) use
+          (λ n obj d k. still_populates Free sessions n obj d k) (not_populating (Scanning s) is_s (λ p e. let k : Populating p ≡ Scanning s = e in cc)) met
     where
       sessions : next.core.sessions ≡ slice_set r.core.sessions place Free
       sessions = ap (λ (y : CoreState). y.sessions) effect
@@ -462,8 +462,8 @@ module _ (x : Scene) (r next : Round) (place : ℕ) (seat : Seat) (session : Ses
       at_s : At r.core.sessions place (Scanning s)
       at_s = subst (At r.core.sessions place) is_s at.does
 
-      use : ReplyUse x (place + 1) (told_so_far x.commands r.seats (place + 1)) hand.text (scan_reply s)
-      use select table spells defined =
+      met : ReplyUse x (place + 1) (told_so_far x.commands r.seats (place + 1)) hand.text (scan_reply s)
+      met select table spells defined =
           let text = subst (Reads hand.text) asks hand.reads in
           let one : command.Select select ≡ command.Select s.select = one_command (command.Select select) (command.Select s.select) spells.0 text.0 (sym spells.1 ∙ text.1) in
           let same : select ≡ s.select = cc in
@@ -488,7 +488,7 @@ module _ (x : Scene) (r next : Round) (place : ℕ) (seat : Seat) (session : Ses
   population_ends p is_p asks t released last effect =
       tells said (units_installed p r.core.units) t (session_now Free sessions) (λ n obj d k. still_populates Free sessions n obj d k) (ap (λ (y : CoreState). y.units) effect) (ap (λ (y : CoreState). y.born) effect)
           (λ obj b e. installed_other p r.core.units obj e (not_this p.obj obj asks b)) filled
-          (λ n z d o e. installed_other p r.core.units z.obj e (λ f. not_others p.obj (n + 1) asks (subst (λ k. others_populate (n + 1) k x.commands ≡ false) f o) (λ g. d (omega arith)))) use
+          (λ n z d o e. installed_other p r.core.units z.obj e (λ f. not_others p.obj (n + 1) asks (subst (λ k. others_populate (n + 1) k x.commands ≡ false) f o) (λ g. d (omega arith)))) met
     where
       said : Reply
       said = reply.Populated p.snapshot (installed_then p r.core.units)
@@ -540,8 +540,8 @@ module _ (x : Scene) (r next : Round) (place : ℕ) (seat : Seat) (session : Ses
               by_session (inl e) = own e f
               by_session (inr e) = absurd (not_others p.obj n asks (subst (λ k. others_populate n k x.commands ≡ false) f o) e)
 
-      use : ReplyUse x (place + 1) (told_so_far x.commands r.seats (place + 1)) hand.text (reply.Populated p.snapshot (installed_then p r.core.units))
-      use obj table spells at_scn a o m =
+      met : ReplyUse x (place + 1) (told_so_far x.commands r.seats (place + 1)) hand.text (reply.Populated p.snapshot (installed_then p r.core.units))
+      met obj table spells at_scn a o m =
           let one : command.Populate obj ≡ command.Populate p.obj = one_command (command.Populate obj) (command.Populate p.obj) spells.0 text.0 (sym spells.1 ∙ text.1) in
           let same : obj ≡ p.obj = cc in
           let tables : Some table ≡ Some p.table = sym (subst (λ k. table_at x.log p.snapshot k ≡ Some table) same at_scn) ∙ defined in
@@ -600,7 +600,7 @@ module _ (x : Scene) (r next : Round) (place : ℕ) (seat : Seat) (session : Ses
   session_use (EndsScan s is_s asks t b whole speaks effect) = subst (UseByAbort x next.core next.seats) (sym b) (scan_ends s is_s asks t whole effect)
 
 pub turns_keep_use : TurnsAreThese → CrewLeavesUnits → BuildingGoesOn → BuildingEnds → ScansGather → TurnsKeepUse
-turns_keep_use these crew goes_on ends gathers x schedule r move next t is so use = by_turn (these schedule r move next is t).1 (subst (UseByAbort x r.core r.seats) (these schedule r move next is t).0 use)
+turns_keep_use these crew goes_on ends gathers x schedule r move next t is so met = by_turn (these schedule r move next is t).1 (subst (UseByAbort x r.core r.seats) (these schedule r move next is t).0 met)
   where
     by_turn : TurnIs r next → UseIs x r.core r.seats → UseByAbort x next.core next.seats next.aborted
     by_turn (Rested core seats b) u = subst (UseByAbort x next.core next.seats) (sym b) (subst (λ ss. UseIs x next.core ss) (sym seats) (subst (λ c. UseIs x c r.seats) (sym core) u))
