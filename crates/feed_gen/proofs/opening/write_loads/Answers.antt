@@ -1,0 +1,17 @@
+use Rattle.std.proofs.Common.{◌≡◌, ◌+◌, ◌-◌, ◌*◌, ◌≤◌, sym, subst, arith}
+use Rattle.std.specs.List.{flat_map, range_with_len}
+use Rattle.feed_gen.specs.Tables.{load, loads}
+use Rattle.feed_gen.proofs.Loops.{records_of, loaded_len, flattened_more}
+use Rattle.feed_gen.proofs.opening.write_loads.Goals as goal
+
+pub write_load-requires-clause-room : goal.write_load-requires-clause-room
+write_load-requires-clause-room c =
+    let before = flat_map load (range_with_len 1 (c.loop-number.number - 1)) in
+    omega (arith, records_of c.loop-number.feed c.args.feed.now before c.loop-number.invariant, loaded_len 1 (c.loop-number.number - 1))
+
+pub loop-number-preserved : goal.loop-number-preserved
+loop-number-preserved c = flattened_more c.args.feed.now c.loop-number.feed c.write_load.new.feed load c.loop-number.number (omega arith) c.loop-number.invariant c.in_ok-write_load.ensures
+
+pub returns : goal.returns
+unfolding loads
+returns c = ?
