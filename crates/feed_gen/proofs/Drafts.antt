@@ -1,5 +1,5 @@
 -- Each delivery keeps within the limits of a feed, and no thread writes after its end.
-use Rattle.std.proofs.Common.{◌≡◌, ℕ, zero, suc, ◌+◌, ◌-◌, ◌*◌, ◌/◌, ◌%◌, ◌<◌, ◌≤◌, ◌^◌, Bool, true, false, cond, min, sum, List, [], ◌∷◌, ◌++◌, length, map, filter, take, drop, Option, Some, None, refl, sym, ap, ap₂, ◌∙◌, subst, arith, append_assoc, append-nil, true≢false}
+use Rattle.std.proofs.Common.{◌≡◌, ℕ, zero, suc, ◌+◌, ◌-◌, ◌*◌, ◌/◌, ◌%◌, ◌<◌, ◌≤◌, ◌^◌, Bool, true, false, cond, min, List, [], ◌∷◌, ◌++◌, length, map, filter, take, drop, Option, Some, None, refl, sym, ap, ap₂, ◌∙◌, subst, arith, append_assoc, append-nil, true≢false}
 use Rattle.std.specs.Prelude.{◌==◌, ◌&&◌, codes}
 use Rattle.std.specs.List.{AllByRecursion, flat_map, range_with_len}
 use Rattle.std.specs.Int.{div_ceil}
@@ -139,6 +139,10 @@ last_good bank h = record {
   few_asked = closing_asked_good.1;
 }
 
+abbrev total : List ℕ → ℕ
+total [] = 0
+total (n ∷ ns) = n + total ns
+
 abbrev ArePortions : List ℕ → Type 0
 ArePortions ns = AllByRecursion (λ n. n ≤ 500) ns
 
@@ -147,7 +151,7 @@ transfer_good delivery n bank few all h =
     let asked = sessions_good (transfer_asked delivery) (transfer_asked_good delivery) in
     record { written = transfers_good n bank all h; few_written = omega (arith, transfers_len n bank, few); asked = asked.0; few_asked = asked.1 }
 
-transfer_drafts_good : (ns : List ℕ) (delivery : ℕ) (bank : Bank) → ArePortions ns → bank.made + sum ns ≤ 100000 → IsSteady bank → AllByRecursion IsDraft (transfer_drafts delivery ns bank)
+transfer_drafts_good : (ns : List ℕ) (delivery : ℕ) (bank : Bank) → ArePortions ns → bank.made + total ns ≤ 100000 → IsSteady bank → AllByRecursion IsDraft (transfer_drafts delivery ns bank)
 transfer_drafts_good [] delivery bank few all h = (last_good bank h, tt)
 transfer_drafts_good (n ∷ ns) delivery bank few all h =
     (transfer_good delivery n bank few.0 (omega (arith, all)) h,
@@ -163,11 +167,11 @@ portions_few : (txns i n : ℕ) → ArePortions (map (portion_of txns) (range_wi
 portions_few txns i zero = tt
 portions_few txns i (suc n) = (omega arith, portions_few txns (i + 1) n)
 
-portions_sum_from : (txns i n : ℕ) → sum (map (portion_of txns) (range_with_len i n)) ≡ min (500 * n) (txns - 500 * i)
+portions_sum_from : (txns i n : ℕ) → total (map (portion_of txns) (range_with_len i n)) ≡ min (500 * n) (txns - 500 * i)
 portions_sum_from txns i zero = omega arith
 portions_sum_from txns i (suc n) = omega (arith, portions_sum_from txns (i + 1) n)
 
-pub portions_sum : (txns : ℕ) → sum (portions txns) ≡ txns
+pub portions_sum : (txns : ℕ) → total (portions txns) ≡ txns
 portions_sum txns = omega (arith, portions_sum_from txns 0 (div_ceil txns 500))
 
 portions_len : (txns : ℕ) → txns ≤ 100000 → length (portions txns) ≤ 200
@@ -303,7 +307,7 @@ closing_count kept =
     omega (arith, left_count 1 kept.one, left_count 2 kept.two, left_count 3 kept.three, length-append (all_kept kept) ends,
       length-append (left_over 1 kept.one ++ left_over 2 kept.two) (left_over 3 kept.three), length-append (left_over 1 kept.one) (left_over 2 kept.two))
 
-drafts_count : (ns : List ℕ) (delivery : ℕ) (bank : Bank) → length (all_written (transfer_drafts delivery ns bank)) ≡ kept_count bank.kept + 2 * sum ns + 3
+drafts_count : (ns : List ℕ) (delivery : ℕ) (bank : Bank) → length (all_written (transfer_drafts delivery ns bank)) ≡ kept_count bank.kept + 2 * total ns + 3
 drafts_count [] delivery bank = omega (arith, closing_count bank.kept, length-append (closing bank.kept) [])
 drafts_count (n ∷ ns) delivery bank =
     omega (arith, transfers_count n bank, drafts_count ns (delivery + 1) (after_transfers n bank), length-append (transfers n bank) (all_written (transfer_drafts (delivery + 1) ns (after_transfers n bank))))

@@ -117,3 +117,11 @@ first_within = record {
 
 pub opened_good : (seed : ℕ) → IsGood (opened seed)
 opened_good seed = record { kept = record { one = tt; two = tt; three = tt }; balances = first_within }
+
+pub made_many : (n : ℕ) (bank : Bank) → (after_transfers n bank).made ≡ bank.made + n
+made_many zero bank = omega arith
+made_many (suc n) bank = omega (arith, made_many n (after_transfer bank), made_after bank)
+
+pub good_many : (n : ℕ) (bank : Bank) → IsGood bank → IsGood (after_transfers n bank)
+good_many zero bank h = h
+good_many (suc n) bank h = good_many n (after_transfer bank) (good_after bank h)

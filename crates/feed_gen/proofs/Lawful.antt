@@ -2,6 +2,7 @@
 use Rattle.std.proofs.Common.{◌≡◌, ℕ, zero, suc, ◌+◌, ◌-◌, ◌*◌, ◌<◌, ◌≤◌, ◌^◌, List, [], ◌∷◌, ◌++◌, length, map, take, drop, refl, sym, ap, ap₂, ◌∙◌, subst, arith, append_assoc, append-nil}
 use Rattle.std.specs.List.{AllByRecursion, flat_map, sum_by}
 use Rattle.std.proofs.lemmas.List.{length-append}
+use Rattle.std.proofs.lemmas.List.Sums.{sum_by-cons}
 use Rattle.adg_model.specs.Feed.{Item, Standing, start, delivery_of, BeginsFeed, IsFeed}
 use Rattle.adg_model.specs.Database.{Database, after, no_database}
 use Rattle.adg_model.specs.Sound.{refusal, IsSound}
@@ -107,7 +108,7 @@ each_is_read seed txns few before more e =
 
 sum_len : (ds : List Draft) → sum_by (λ (d : Draft). length d.written) ds ≡ length (all_written ds)
 sum_len [] = refl
-sum_len (d ∷ ds) = omega (arith, sum_len ds, length-append d.written (all_written ds))
+sum_len (d ∷ ds) = omega (arith, sum_by-cons (λ (d : Draft). length d.written) d ds, sum_len ds, length-append d.written (all_written ds))
 
 pub last_scn : LastScn
 last_scn seed txns = sum_len (drafts seed txns) ∙ all_count seed txns

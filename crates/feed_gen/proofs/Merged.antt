@@ -62,16 +62,17 @@ above_scn scn es = AllByRecursion (λ e. scn ≤ e.scn) es
 
 part_above : (thread number scn : ℕ) (ws : List Writing) → above_scn scn (thread_part thread number scn ws)
 part_above thread number scn [] = tt
-part_above thread number scn (w ∷ ws) = by_thread (w.thread == thread)
+part_above thread number scn (w ∷ ws) = by_thread (w.thread == thread) (later _ (part_above thread (number + 1) (scn + 1) ws)) (later _ (part_above thread number (scn + 1) ws))
   where
-    later : (number : ℕ) → above_scn scn (thread_part thread number (scn + 1) ws)
-    later number = each_weaker (λ e. scn + 1 ≤ e.scn) (λ e. scn ≤ e.scn) (λ e h. omega (arith, h)) _ (part_above thread number (scn + 1) ws)
+    later : (es : List LogEntry) → above_scn (scn + 1) es → above_scn scn es
+    later es h = each_weaker (λ e. scn + 1 ≤ e.scn) (λ e. scn ≤ e.scn) (λ e k. omega (arith, k)) es h
 
-    by_thread : (t : Bool) → above_scn scn (thread_entries thread number (cond t (record_at scn w ∷ records_of thread (scn + 1) ws) (records_of thread (scn + 1) ws)))
-    by_thread true = each_append (λ e. scn ≤ e.scn) (record_entries thread number scn 1 w.vectors) (thread_part thread (number + 1) (scn + 1) ws)
+    by_thread : (t : Bool) → above_scn scn (thread_part thread (number + 1) (scn + 1) ws) → above_scn scn (thread_part thread number (scn + 1) ws)
+        → above_scn scn (thread_entries thread number (cond t (record_at scn w ∷ records_of thread (scn + 1) ws) (records_of thread (scn + 1) ws)))
+    by_thread true own rest = each_append (λ e. scn ≤ e.scn) (record_entries thread number scn 1 w.vectors) (thread_part thread (number + 1) (scn + 1) ws)
         (each_weaker (IsOf thread scn 1) (λ e. scn ≤ e.scn) (λ e h. omega (arith, h.same_scn)) _ (record_entries_are thread number scn 1 w.vectors))
-        (later (number + 1))
-    by_thread false = later number
+        own
+    by_thread false own rest = rest
 
 part_own : (thread number scn : ℕ) (w : Writing) (ws : List Writing) → w.thread ≡ thread → thread_part thread number scn (w ∷ ws) ≡ record_entries thread number scn 1 w.vectors ++ thread_part thread (number + 1) (scn + 1) ws
 part_own thread number scn w ws e = ap (λ t. thread_entries thread number (cond t (record_at scn w ∷ records_of thread (scn + 1) ws) (records_of thread (scn + 1) ws))) (same (w.thread == thread) refl)
@@ -169,17 +170,20 @@ vectors_first thread number scn vs ws all rest e h =
 
 pub in_order_vectors : (a b c scn : ℕ) (ws : List Writing) → AllByRecursion IsWriting ws → vectors_in (in_order (three_threads a b c scn ws)) ≡ all_vectors ws
 in_order_vectors a b c scn [] h = refl
-in_order_vectors a b c scn (w ∷ ws) h = by_thread (cases_eq w.thread 1) (cases_eq w.thread 2)
+in_order_vectors a b c scn (w ∷ ws) h =
+    by_thread (cases_eq w.thread 1) (cases_eq w.thread 2) (in_order_vectors (a + 1) b c (scn + 1) ws h.1) (in_order_vectors a (b + 1) c (scn + 1) ws h.1) (in_order_vectors a b (c + 1) (scn + 1) ws h.1)
   where
-    by_thread : (w.thread ≡ 1) ⊎ (w.thread ≡ 1 → ⊥) → (w.thread ≡ 2) ⊎ (w.thread ≡ 2 → ⊥) → vectors_in (in_order (three_threads a b c scn (w ∷ ws))) ≡ w.vectors ++ all_vectors ws
-    by_thread (inl e) t = vectors_first 1 a scn w.vectors (all_vectors ws) _ _ (first_of_one a b c scn w ws e) (in_order_vectors (a + 1) b c (scn + 1) ws h.1)
-    by_thread (inr n) (inl e) = vectors_first 2 b scn w.vectors (all_vectors ws) _ _ (first_of_two a b c scn w ws e) (in_order_vectors a (b + 1) c (scn + 1) ws h.1)
-    by_thread (inr n) (inr m) =
-        let e : w.thread ≡ 3 = last_thread w.thread h.0.thread.0 h.0.thread.1 n m in
-        vectors_first 3 c scn w.vectors (all_vectors ws) _ _ (first_of_three a b c scn w ws e) (in_order_vectors a b (c + 1) (scn + 1) ws h.1)
-      where
-        last_thread : (t : ℕ) → 1 ≤ t → t ≤ 3 → (t ≡ 1 → ⊥) → (t ≡ 2 → ⊥) → t ≡ 3
-        last_thread t from to n m = omega (arith, from, to, n, m)
+    last_thread : (t : ℕ) → 1 ≤ t → t ≤ 3 → (t ≡ 1 → ⊥) → (t ≡ 2 → ⊥) → t ≡ 3
+    last_thread t from to n m = omega (arith, from, to, n, m)
+
+    by_thread : (w.thread ≡ 1) ⊎ (w.thread ≡ 1 → ⊥) → (w.thread ≡ 2) ⊎ (w.thread ≡ 2 → ⊥)
+        → vectors_in (in_order (three_threads (a + 1) b c (scn + 1) ws)) ≡ all_vectors ws
+        → vectors_in (in_order (three_threads a (b + 1) c (scn + 1) ws)) ≡ all_vectors ws
+        → vectors_in (in_order (three_threads a b (c + 1) (scn + 1) ws)) ≡ all_vectors ws
+        → vectors_in (in_order (three_threads a b c scn (w ∷ ws))) ≡ w.vectors ++ all_vectors ws
+    by_thread (inl e) t x y z = vectors_first 1 a scn w.vectors (all_vectors ws) _ _ (first_of_one a b c scn w ws e) x
+    by_thread (inr n) (inl e) x y z = vectors_first 2 b scn w.vectors (all_vectors ws) _ _ (first_of_two a b c scn w ws e) y
+    by_thread (inr n) (inr m) x y z = vectors_first 3 c scn w.vectors (all_vectors ws) _ _ (first_of_three a b c scn w ws (last_thread w.thread h.0.thread.0 h.0.thread.1 n m)) z
 
 -- ---- a sound list of vectors
 
@@ -206,11 +210,11 @@ after_append db (v ∷ vs) ws = after_append (after db v) vs ws
 -- what stands up to an SCN is sound too
 sound_upto : (scn pos : ℕ) (db : Database) (es : List LogEntry) → ScnsRise es → SoundVectors db (vectors_in es) → SoundFrom db (numbered pos (upto scn es))
 sound_upto scn pos db [] r h = tt
-sound_upto scn pos db (e ∷ es) r h = by_test (nat_le e.scn scn) refl
+sound_upto scn pos db (e ∷ es) r h = by_test (nat_le e.scn scn) refl (sound_upto scn (pos + 1) (after db e.vector) es r.1 h.2)
   where
-    by_test : (t : Bool) → nat_le e.scn scn ≡ t → SoundFrom db (numbered pos (cond t (e ∷ upto scn es) (upto scn es)))
-    by_test true t = (h.0, h.1, sound_upto scn (pos + 1) (after db e.vector) es r.1 h.2)
-    by_test false t =
+    by_test : (t : Bool) → nat_le e.scn scn ≡ t → SoundFrom (after db e.vector) (numbered (pos + 1) (upto scn es)) → SoundFrom db (numbered pos (cond t (e ∷ upto scn es) (upto scn es)))
+    by_test true t rest = (h.0, h.1, rest)
+    by_test false t rest =
         let above = leb-false e.scn scn t in
         let none : upto scn es ≡ [] = upto_none scn es (each_weaker (λ x. e.scn ≤ x.scn) (λ x. scn < x.scn) (λ x j. omega (arith, j, above)) es r.0) in
         subst (λ l. SoundFrom db (numbered pos l)) (sym none) tt

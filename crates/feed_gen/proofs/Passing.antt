@@ -190,7 +190,7 @@ created_more k db h = record { tables = tables; created = created; begun = h.beg
 create_passes : (k : ℕ) (db : Database) → Created k db → refusal db (Create k (extents_of k) true kinds) ≡ None
 create_passes k db h = rw (h.created k (omega arith)) refl
 
-abbrev creates_of : ℕ → ℕ → List Vector
+abbrev pub creates_of : ℕ → ℕ → List Vector
 creates_of a n = flat_map (λ k. Create k (extents_of k) true kinds ∷ []) (range_with_len a n)
 
 pub creates_pass : (a n : ℕ) (db : Database) → Created a db → Passes db (creates_of a n) × Created (a + n) (made_by db (creates_of a n))

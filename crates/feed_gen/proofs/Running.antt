@@ -13,7 +13,7 @@ use Rattle.feed_gen.specs.Tables.{block_of, slot_of, values, put, undo}
 use Rattle.feed_gen.specs.Transfers.{second_of, second_vectors}
 use Rattle.feed_gen.specs.Bounds.{IsTable, IsTransfer, IsSecond}
 use Rattle.feed_gen.proofs.Good.{second_good}
-use Rattle.feed_gen.proofs.Passing.{Passes, made_by, passes_append, made_append, set_same, same_itself, OfTxn, Same, same_by, stands_by, of_append, Stands, IsBusy, begin_passes, put_passes, undo_passes, commit_passes, abort_passes, put_noted}
+use Rattle.feed_gen.proofs.Passing.{Passes, made_by, passes_append, made_append, set_same, same_itself, OfTxn, Same, same_by, stands_by, of_append, Stands, table_made, IsBusy, begin_passes, put_passes, undo_passes, commit_passes, abort_passes, put_noted}
 
 abbrev place_at : ℕ → ℕ → Place
 place_at k row = place k (block_of k row) (slot_of k row)
@@ -50,7 +50,7 @@ struck_first a c rest changes e at = rw (e, at, same_itself a) refl
 second_passes : (from : ℕ) (s : Second) (db : Database) → Stands from db → IsOpen s db → Passes db (second_vectors s)
 second_passes from s db stands h = by_fate s.aborts
   where
-    there : db.tables s.table ≡ Some _
+    there : db.tables s.table ≡ Some (table_made s.table)
     there = stands.tables s.table h.good.table
 
     change : Change

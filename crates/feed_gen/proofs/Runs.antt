@@ -11,12 +11,12 @@ use Rattle.feed_gen.specs.declared.bank.Bank.{Bank}
 use Rattle.feed_gen.specs.Draws.{draws, drawn}
 use Rattle.feed_gen.specs.Tables.{thread_of}
 use Rattle.feed_gen.specs.Transfers.{settled, debited, credited, second_of, first_record, number_of, kept_by, with_kept, left_over, transfer_writings, after_transfer, transfers, after_transfers}
-use Rattle.feed_gen.specs.Generated.{Draft, portion_of, transfer_draft, transfer_drafts}
+use Rattle.feed_gen.specs.Generated.{Draft, portion_of, transfer_draft, last_draft, transfer_drafts}
 use Rattle.feed_gen.specs.Written.{Written, with_writings, with_draft, with_drafts}
 use Rattle.feed_gen.specs.Bounds.{IsGood}
 use Rattle.feed_gen.proofs.Written.{with_writings_then, with_no_writings}
 use Rattle.feed_gen.proofs.Small.{transfers_len}
-use Rattle.feed_gen.proofs.Good.{good_after, made_after}
+use Rattle.feed_gen.proofs.Good.{good_after, made_after, good_many, made_many}
 
 -- one transfer, from what its parts give
 module _ (bank : Bank) (t : Transfer) (drawn_is : t ≡ drawn bank.source) (thread : ℕ) (thread_is : thread ≡ thread_of t.table) where
@@ -80,13 +80,14 @@ pub record GoesOn (txns i n : ℕ) (bank : Bank) (v : Written) (all : Written) :
   pub room : v.records ≤ 60 + 2 * bank.made
   pub whole : with_drafts v (transfer_drafts (2 + i) (map (portion_of txns) (range_with_len i (n - i))) bank) ≡ all
 
-pub goes_more : (txns i n : ℕ) (bank after : Bank) (v x all : Written) → i < n → GoesOn txns i n bank v all → IsGood after → after ≡ after_transfers (portion_of txns i) bank → after.made ≡ bank.made + portion_of txns i → x ≡ with_draft v (transfer_draft (2 + i) (portion_of txns i) bank) → GoesOn txns (i + 1) n after x all
-goes_more txns i n bank after v x all lt h good after_is made x_is =
+goes_one : (txns i n : ℕ) (bank after : Bank) (v x all : Written) → i < n → GoesOn txns i n bank v all → after ≡ after_transfers (portion_of txns i) bank → x ≡ with_draft v (transfer_draft (2 + i) (portion_of txns i) bank) → GoesOn txns (i + 1) n after x all
+goes_one txns i n bank after v x all lt h after_is x_is =
     let e : n - i ≡ suc (n - (i + 1)) = omega arith in
     let d : 2 + (i + 1) ≡ 2 + i + 1 = omega arith in
+    let made : after.made ≡ bank.made + portion_of txns i = ap (λ (b : Bank). b.made) after_is ∙ made_many (portion_of txns i) bank in
     let rest = map (portion_of txns) (range_with_len (i + 1) (n - (i + 1))) in
     record {
-      good = good;
+      good = subst IsGood (sym after_is) (good_many (portion_of txns i) bank h.good);
       made = omega (arith, h.made, made);
       room = omega (arith, h.room, made, ap (λ (w : Written). w.records) x_is, transfers_len (portion_of txns i) bank);
       whole = ap₂ (λ x b. with_drafts x (transfer_drafts (2 + (i + 1)) rest b)) x_is after_is
@@ -94,3 +95,17 @@ goes_more txns i n bank after v x all lt h good after_is made x_is =
         ∙ sym (ap (λ k. with_drafts v (transfer_drafts (2 + i) (map (portion_of txns) (range_with_len i k)) bank)) e)
         ∙ h.whole;
     }
+
+pub goes_more : (txns i n count : ℕ) (bank after : Bank) (v x all : Written) → i < n → count ≡ portion_of txns i → GoesOn txns i n bank v all → after ≡ after_transfers count bank → x ≡ with_draft v (transfer_draft (2 + i) count bank) → GoesOn txns (i + 1) n after x all
+goes_more txns i n count bank after v x all lt count_is h after_is x_is =
+    goes_one txns i n bank after v x all lt h (after_is ∙ ap (λ k. after_transfers k bank) count_is) (x_is ∙ ap (λ k. with_draft v (transfer_draft (2 + i) k bank)) count_is)
+
+pub goes_first : (txns n : ℕ) (bank : Bank) (v : Written) → IsGood bank → bank.made ≡ 0 → v.records ≤ 60 → GoesOn txns 0 n bank v (with_drafts v (transfer_drafts 2 (map (portion_of txns) (range_with_len 0 n)) bank))
+goes_first txns n bank v good none room =
+    let e : n - 0 ≡ n = omega arith in
+    record { good = good; made = omega (arith, none); room = omega (arith, room); whole = ap (λ k. with_drafts v (transfer_drafts 2 (map (portion_of txns) (range_with_len 0 k)) bank)) e }
+
+pub goes_end : (txns i n : ℕ) (bank : Bank) (v x all : Written) → n ≤ i → GoesOn txns i n bank v all → x ≡ with_draft v (last_draft bank.kept) → x ≡ all
+goes_end txns i n bank v x all le h x_is =
+    let none : n - i ≡ 0 = omega arith in
+    x_is ∙ sym (ap (λ k. with_drafts v (transfer_drafts (2 + i) (map (portion_of txns) (range_with_len i k)) bank)) none) ∙ h.whole

@@ -48,7 +48,7 @@ thread_in table = (omega arith, omega arith)
 
 -- ---- the vectors
 
-fits_small : (b : ℤ) → IsWithin 20000000 b → FitsSigned w64 b
+pub fits_small : (b : ℤ) → IsWithin 20000000 b → FitsSigned w64 b
 fits_small b h = omega (arith, ints, h.low, h.high)
 
 slot_few : (table row : ℕ) → IsRowNumber row → slot_of table row < 100
@@ -207,7 +207,7 @@ pub record IsSteady (bank : Bank) : Type 0 where
   pub good : IsGood bank
   pub ready : AreReady bank.kept
 
-few_within : (made : ℕ) (b : ℤ) → made < 100000 → IsWithin (1000 + 100 * made + 100) b → IsWithin 20000000 b
+pub few_within : (made : ℕ) (b : ℤ) → made < 100000 → IsWithin (1000 + 100 * made + 100) b → IsWithin 20000000 b
 few_within made b few h = record { low = omega (arith, ints, h.low); high = omega (arith, ints, h.high) }
 
 pub transfer_good : (bank : Bank) → bank.made < 100000 → IsSteady bank → AllByRecursion IsWriting (transfer_writings bank)
@@ -282,3 +282,13 @@ transfer_len bank =
 pub transfers_len : (n : ℕ) (bank : Bank) → length (transfers n bank) ≤ 2 * n
 transfers_len zero bank = omega arith
 transfers_len (suc n) bank = omega (arith, transfer_len bank, transfers_len n (after_transfer bank), length-append (transfer_writings bank) (transfers n (after_transfer bank)))
+
+-- what the rows of a transfer have after it fits, in a word too
+pub debited_fits : (bank : Bank) (t : Transfer) (z : ℤ) → bank.made < 100000 → IsGood bank → IsTransfer t → z ≡ debited bank.balances t → FitsSigned w64 z
+debited_fits bank t z few h good e =
+    let d = debited_good (1000 + 100 * bank.made) bank.balances t good h.balances in
+    subst (FitsSigned w64) (sym e) (fits_small (debited bank.balances t) (few_within bank.made (debited bank.balances t) few (record { low = d.0; high = omega (arith, ints, d.1) })))
+
+pub credited_fits : (bank : Bank) (t : Transfer) (z : ℤ) → bank.made < 100000 → IsGood bank → IsTransfer t → z ≡ credited bank.balances t → FitsSigned w64 z
+credited_fits bank t z few h good e =
+    subst (FitsSigned w64) (sym e) (fits_small (credited bank.balances t) (few_within bank.made (credited bank.balances t) few (credited_good (1000 + 100 * bank.made) bank.balances t good h.balances)))

@@ -22,7 +22,13 @@ pub counts_and_sums_text : (table : ℕ) → command_bytes (counts_and_sums tabl
 counts_and_sums_text table = rw (second_column, first_column) (ap (λ l. codes "SELECT COUNT, SUM(c2) FROM t" ++ (l ++ codes " GROUP BY c1")) (append-nil (decimal table)))
 
 -- they are short
+sums_len : (table : ℕ) → length (codes "SELECT SUM(c2) FROM t" ++ decimal table ++ codes " GROUP BY c1") ≡ 33 + length (decimal table)
+sums_len table = omega (arith, length-append (decimal table) (codes " GROUP BY c1"))
+
+counts_len : (table : ℕ) → length (codes "SELECT COUNT, SUM(c2) FROM t" ++ decimal table ++ codes " GROUP BY c1") ≡ 40 + length (decimal table)
+counts_len table = omega (arith, length-append (decimal table) (codes " GROUP BY c1"))
+
 pub text_few : (question : Question) (table : ℕ) → table < 256 → length (command_bytes (command_of question table)) ≤ 64
 text_few Populate table lt = omega (arith, length-decimal-le 3 table (omega arith) (omega arith) (omega arith))
-text_few Sums table lt = rw (sums_text table) (omega (arith, length-append (decimal table) (codes " GROUP BY c1"), length-decimal-le 3 table (omega arith) (omega arith) (omega arith)))
-text_few CountsAndSums table lt = rw (counts_and_sums_text table) (omega (arith, length-append (decimal table) (codes " GROUP BY c1"), length-decimal-le 3 table (omega arith) (omega arith) (omega arith)))
+text_few Sums table lt = omega (arith, ap length (sums_text table), sums_len table, length-decimal-le 3 table (omega arith) (omega arith) (omega arith))
+text_few CountsAndSums table lt = omega (arith, ap length (counts_and_sums_text table), counts_len table, length-decimal-le 3 table (omega arith) (omega arith) (omega arith))

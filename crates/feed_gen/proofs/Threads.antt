@@ -96,7 +96,10 @@ raw_good scn w from to h = record { from = from; to = to; count = omega (arith, 
 
 pub raws_follow : (thread scn : ℕ) (mark : Mark) (ws : List Writing) → AllByRecursion IsWriting ws → EndsLast ws → mark.scn < scn → scn + length ws < 2 ^ 48 → (mark.ended ≡ true → HasNone thread ws) → AreRaws mark (map raw_of (records_of thread scn ws))
 raws_follow thread scn mark [] h e above few none = tt
-raws_follow thread scn mark (w ∷ ws) h e above few none = by_thread (w.thread == thread) refl
+raws_follow thread scn mark (w ∷ ws) h e above few none =
+    by_thread (w.thread == thread) refl
+    (λ own. raws_follow thread (scn + 1) (mark_of (raw_of (record_at scn w))) ws h.1 e.1 (omega arith) (omega (arith, few)) (after_end own))
+    (raws_follow thread (scn + 1) mark ws h.1 e.1 (omega (arith, above)) (omega (arith, few)) (λ ended. (none ended).1))
   where
     running : w.thread ≡ thread → (b : Bool) → mark.ended ≡ b → mark.ended ≡ false
     running own true t = absurd ((none t).0 own)
@@ -105,12 +108,14 @@ raws_follow thread scn mark (w ∷ ws) h e above few none = by_thread (w.thread 
     after_end : w.thread ≡ thread → is_end (raw_of (record_at scn w)) ≡ true → HasNone thread ws
     after_end own t = subst (λ n. HasNone n ws) own (e.0 t)
 
-    by_thread : (t : Bool) → (w.thread == thread) ≡ t → AreRaws mark (map raw_of (cond t (record_at scn w ∷ records_of thread (scn + 1) ws) (records_of thread (scn + 1) ws)))
-    by_thread true t =
+    by_thread : (t : Bool) → (w.thread == thread) ≡ t
+        → (w.thread ≡ thread → AreRaws (mark_of (raw_of (record_at scn w))) (map raw_of (records_of thread (scn + 1) ws)))
+        → AreRaws mark (map raw_of (records_of thread (scn + 1) ws))
+        → AreRaws mark (map raw_of (cond t (record_at scn w ∷ records_of thread (scn + 1) ws) (records_of thread (scn + 1) ws)))
+    by_thread true t own_rest rest =
         let own = eqb-true w.thread thread t in
-        (raw_good scn w (omega (arith, above)) (omega (arith, few)) h.0, running own mark.ended refl, above,
-        raws_follow thread (scn + 1) (mark_of (raw_of (record_at scn w))) ws h.1 e.1 (omega arith) (omega (arith, few)) (after_end own))
-    by_thread false t = raws_follow thread (scn + 1) mark ws h.1 e.1 (omega (arith, above)) (omega (arith, few)) (λ ended. (none ended).1)
+        (raw_good scn w (omega (arith, above)) (omega (arith, few)) h.0, running own mark.ended refl, above, own_rest own)
+    by_thread false t own_rest rest = rest
 
 pub readable : (thread scn : ℕ) (ws : List Writing) → AllByRecursion IsWriting ws → AreReadable (records_of thread scn ws)
 readable thread scn [] h = tt
@@ -128,7 +133,7 @@ nothing_wrong : (mark : Mark) → record_fault mark [] ≡ None
 unfolding record_fault
 nothing_wrong mark = by_end mark.ended
   where
-    by_end : (b : Bool) → cond b (cond (length ([] : List ℕ) == 0) None (Some AfterEnd)) None ≡ None
+    by_end : (b : Bool) → cond b (cond (0 == 0) None (Some AfterEnd)) None ≡ None
     by_end true = refl
     by_end false = refl
 

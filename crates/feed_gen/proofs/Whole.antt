@@ -3,7 +3,7 @@ use Rattle.std.proofs.Common.{◌≡◌, ℕ, zero, suc, ◌+◌, ◌-◌, ◌*�
 use Rattle.std.specs.Prelude.{◌==◌, filter}
 use Rattle.std.specs.List.{AllByRecursion, flat_map, range_with_len, sum_by, count_by}
 use Rattle.std.proofs.lemmas.List.{length-append}
-use Rattle.std.proofs.lemmas.List.Sums.{sum_by-append}
+use Rattle.std.proofs.lemmas.List.Sums.{sum_by-append, sum_by-cons}
 use Rattle.std.proofs.lemmas.Bool.Decides.{nat_tests}
 use Rattle.adg_model.specs.Feed.{Item, Redo, Asks, Schedules, payload_len, redo_len, asks, payload_total, redo_total, asked, IsIn, IsItem, AreItems, IsDelivery, AreDeliveries, IsFeed, Fits, Standing, start, after_delivery, BeginsFeed}
 use Rattle.adg_model.specs.Records.{raw_of, record_bytes, raw_len}
@@ -32,15 +32,10 @@ redo_more : (before : List Item) (i : Item) → redo_total (before ++ i ∷ []) 
 redo_more before i = omega (arith, sum_by-append redo_len before (i ∷ []))
 
 abbrev one_if : Bool → ℕ
-one_if true = 1
-one_if false = 0
+one_if b = cond b 1 0
 
 asked_cons : (s : ℕ) (i : Item) (items : List Item) → asked s (i ∷ items) ≡ one_if (asks s i) + asked s items
-asked_cons s i items = by_test (asks s i)
-  where
-    by_test : (b : Bool) → cond b (suc (asked s items)) (asked s items) ≡ one_if b + asked s items
-    by_test true = omega arith
-    by_test false = omega arith
+asked_cons s i items = sum_by-cons (λ x. cond (asks s x) 1 0) i items
 
 asked_append : (s : ℕ) (a b : List Item) → asked s (a ++ b) ≡ asked s a + asked s b
 asked_append s [] b = omega arith
@@ -55,8 +50,14 @@ asks_itself s t = same_number s
     same_number : (n : ℕ) → (n == n) ≡ true
     same_number n = grind (arith, nat_tests)
 
+payload_cons : (i : Item) (items : List Item) → payload_total (i ∷ items) ≡ payload_len i + payload_total items
+payload_cons i items = sum_by-cons payload_len i items
+
+redo_cons : (i : Item) (items : List Item) → redo_total (i ∷ items) ≡ redo_len i + redo_total items
+redo_cons i items = sum_by-cons redo_len i items
+
 fits_here : (st : Standing) (before : List Item) (i : Item) (items : List Item) → payload_total before + payload_total (i ∷ items) ≤ 33554432 → st.redo + redo_total before + redo_total (i ∷ items) ≤ 4294967295 → Fits st before i
-fits_here st before i items p r = record { payload = omega (arith, p); redo = omega (arith, r) }
+fits_here st before i items p r = record { payload = omega (arith, p, payload_cons i items); redo = omega (arith, r, redo_cons i items) }
 
 here : (st : Standing) (before : List Item) (i : Item) → IsPlain st i → Fits st before i → ((s : ℕ) → asked s before + one_if (asks s i) ≤ 1024) → IsItem st before i
 here st before (Redo t b) h f k = (h, f)
@@ -67,7 +68,7 @@ pub are_items : (st : Standing) (before items : List Item) → AllByRecursion (I
 are_items st before [] h p r k = tt
 are_items st before (i ∷ items) h p r k =
     (here st before i h.0 (fits_here st before i items p r) (λ s. omega (arith, k s, asked_cons s i items)),
-    are_items st (before ++ i ∷ []) items h.1 (omega (arith, p, payload_more before i)) (omega (arith, r, redo_more before i)) (λ s. omega (arith, k s, asked_cons s i items, asked_more s before i)))
+    are_items st (before ++ i ∷ []) items h.1 (omega (arith, p, payload_more before i, payload_cons i items)) (omega (arith, r, redo_more before i, redo_cons i items)) (λ s. omega (arith, k s, asked_cons s i items, asked_more s before i)))
 
 -- ---- the items of a delivery
 
@@ -96,23 +97,23 @@ module _ (st : Standing) (three : st.threads ≡ 3) (four : st.sessions ≡ 4) w
 
 redo_payload : (scn : ℕ) (ws : List Writing) → AllByRecursion IsWriting ws → payload_total (redo_items scn ws) ≤ 6101 * length ws
 redo_payload scn [] h = omega arith
-redo_payload scn (w ∷ ws) h = omega (arith, record_len scn w h.0, redo_payload (scn + 1) ws h.1)
+redo_payload scn (w ∷ ws) h = omega (arith, payload_cons (redo_item scn w) (redo_items (scn + 1) ws), record_len scn w h.0, redo_payload (scn + 1) ws h.1)
 
 redo_redo : (scn : ℕ) (ws : List Writing) → AllByRecursion IsWriting ws → redo_total (redo_items scn ws) ≤ 6101 * length ws
 redo_redo scn [] h = omega arith
-redo_redo scn (w ∷ ws) h = omega (arith, record_len scn w h.0, redo_redo (scn + 1) ws h.1)
+redo_redo scn (w ∷ ws) h = omega (arith, redo_cons (redo_item scn w) (redo_items (scn + 1) ws), record_len scn w h.0, redo_redo (scn + 1) ws h.1)
 
 redo_asked : (s scn : ℕ) (ws : List Writing) → asked s (redo_items scn ws) ≡ 0
 redo_asked s scn [] = refl
-redo_asked s scn (w ∷ ws) = redo_asked s (scn + 1) ws
+redo_asked s scn (w ∷ ws) = omega (arith, asked_cons s (redo_item scn w) (redo_items (scn + 1) ws), redo_asked s (scn + 1) ws)
 
 asked_payload : (list : List Asking) → AllByRecursion IsAsked list → payload_total (map ask_item list) ≤ 65 * length list
 asked_payload [] h = omega arith
-asked_payload (a ∷ list) h = omega (arith, h.0.few, asked_payload list h.1)
+asked_payload (a ∷ list) h = omega (arith, payload_cons (ask_item a) (map ask_item list), h.0.few, asked_payload list h.1)
 
 asked_redo : (list : List Asking) → redo_total (map ask_item list) ≡ 0
 asked_redo [] = refl
-asked_redo (a ∷ list) = omega (arith, asked_redo list)
+asked_redo (a ∷ list) = omega (arith, redo_cons (ask_item a) (map ask_item list), asked_redo list)
 
 asked_asked : (s : ℕ) (list : List Asking) → asked s (map ask_item list) ≤ length list
 asked_asked s [] = omega arith

@@ -3,14 +3,14 @@ use Rattle.std.proofs.Common.{◌≡◌, ℕ, ◌+◌, ◌<◌, ◌^◌, List, [
 use Rattle.std.specs.List.{flat_map}
 use Rattle.std.proofs.lemmas.List.{length-append, map-append}
 use Rattle.std.proofs.lemmas.Grind.{flat_map-append}
-use Rattle.adg_model.specs.Feed.{Item, item_bytes, items_bytes, end_bytes, delivery_bytes, deliveries_bytes}
+use Rattle.adg_model.specs.Feed.{Item, item_bytes, items_bytes, end_bytes, stop_bytes, feed_bytes, delivery_bytes, deliveries_bytes}
 use Rattle.adg_base.specs.declared.vector.RedoRecord.{RedoRecord}
 use Rattle.adg_model.specs.Records.{raw_of, record_bytes, IsRecord}
 use Rattle.adg_model.proofs.RecordsSpelled.{length_raw_bytes}
 use Rattle.feed_gen.specs.declared.writing.Writing.{Writing}
 use Rattle.feed_gen.specs.Commands.{Asking}
-use Rattle.feed_gen.specs.Generated.{Draft, redo_item, redo_items, ask_item, draft_items, drafts_items}
-use Rattle.feed_gen.specs.Written.{Written, with_bytes, with_writings, with_asked, with_end, with_draft, with_drafts}
+use Rattle.feed_gen.specs.Generated.{threads, sessions, Draft, redo_item, redo_items, ask_item, draft_items, drafts_items}
+use Rattle.feed_gen.specs.Written.{Written, with_bytes, with_writings, with_asked, with_end, with_draft, with_drafts, with_stop, opened_feed}
 
 pub redo_items_append : (scn : ℕ) (a b : List Writing) → redo_items scn (a ++ b) ≡ redo_items scn a ++ redo_items (scn + length a) b
 redo_items_append scn [] b = let e : scn ≡ scn + 0 = omega arith in ap (λ n. redo_items n b) e
@@ -71,3 +71,7 @@ with_drafts_bytes w (d ∷ ds) =
 -- a record that is written is short
 pub record_short : (r : RedoRecord) (bytes : List ℕ) → bytes ≡ record_bytes r → IsRecord r → length bytes < 2 ^ 16
 record_short r bytes e good = omega (arith, ap length e, length_raw_bytes (raw_of r), good.raw.len)
+
+-- the bytes of a whole feed
+pub all_bytes : (ds : List Draft) → with_stop (with_drafts opened_feed ds) ≡ feed_bytes threads sessions (drafts_items 1 ds)
+all_bytes ds = ap (λ bs. bs ++ stop_bytes) (with_drafts_bytes opened_feed ds)

@@ -23,7 +23,6 @@ fn populate_text(alloc: Global, table: u8) -> Result<String, Memory>
     Ok(text)
 }
 
-#[tactic(auto, using(crate::proofs::Texts::sums_text))]
 fn sums_text(alloc: Global, table: u8) -> Result<String, Memory>
     ensures { IfOk result (λ text. string_bytes text ≡ command_bytes (sums table)) }
 {
@@ -32,7 +31,6 @@ fn sums_text(alloc: Global, table: u8) -> Result<String, Memory>
     Ok(text)
 }
 
-#[tactic(auto, using(crate::proofs::Texts::counts_and_sums_text))]
 fn counts_and_sums_text(alloc: Global, table: u8) -> Result<String, Memory>
     ensures { IfOk result (λ text. string_bytes text ≡ command_bytes (counts_and_sums table)) }
 {
@@ -67,6 +65,22 @@ fn ask_of(
     Ok(())
 }
 
+/// A session asks something of a table, where the table is its own.
+fn ask_if_own(
+    alloc: Global,
+    feed: &mut FeedWriter,
+    session: u8,
+    question: Question,
+    table: u8,
+) -> Result<(), Memory>
+    ensures { OnOk result (feed.new ≡ with_asked feed.old (asks_own question session (table ∷ []))) }
+{
+    if table % SESSIONS == session % SESSIONS {
+        ask_of(alloc, feed, session, question, table)?;
+    }
+    Ok(())
+}
+
 /// A session asks something of each of its tables.
 fn ask_own(
     alloc: Global,
@@ -77,9 +91,7 @@ fn ask_own(
     ensures { OnOk result (feed.new ≡ with_asked feed.old (asks_own question session all_tables)) }
 {
     for table in 1..TABLES + 1 {
-        if table % SESSIONS == session % SESSIONS {
-            ask_of(alloc, feed, session, question, table)?;
-        }
+        ask_if_own(alloc, feed, session, question, table)?;
     }
     Ok(())
 }

@@ -1,9 +1,9 @@
 //! The feed.
 
-ghost use Rattle.std.specs.Prelude.{◌≡◌, ◌<◌, ◌≤◌, ◌^◌, ◌+◌, ◌++◌, ◌∷◌, [], IfOk, OnOk};
+ghost use Rattle.std.specs.Prelude.{◌≡◌, ◌<◌, ◌≤◌, ◌^◌, ◌+◌, ◌*◌, ◌++◌, ◌∷◌, [], IfOk, OnOk};
 ghost use Rattle.feed_gen.specs.Transfers.{closing, transfers, after_transfers, opened};
 ghost use Rattle.feed_gen.specs.Commands.{closing_asked, of_sessions, transfer_asked};
-ghost use Rattle.feed_gen.specs.Generated.{opening, portions, transfer_draft, transfer_drafts, last_draft, drafts, generated};
+ghost use Rattle.feed_gen.specs.Generated.{opening, portion_of, portions, transfer_draft, transfer_drafts, last_draft, drafts, generated};
 ghost use Rattle.feed_gen.specs.Written.{opened_feed, with_draft, with_drafts};
 ghost use Rattle.feed_gen.specs.Bounds.{IsGood, AreKept};
 
@@ -66,6 +66,16 @@ fn write_last(alloc: Global, feed: &mut FeedWriter, kept: &Kept) -> Result<(), M
     Ok(())
 }
 
+/// How many transfers a portion has.
+fn portion_of(txns: u32, portion: u32) -> u32
+    requires txns { txns ≤ 100000 }
+    requires within { 500 * portion ≤ txns }
+    ensures count { result ≡ portion_of txns portion }
+    ensures few { 500 * portion + result ≤ txns }
+{
+    (txns - PORTION * portion).min(PORTION)
+}
+
 /// The deliveries after the first.
 fn write_portions(
     alloc: Global,
@@ -80,7 +90,7 @@ fn write_portions(
     ensures { OnOk result (feed.new ≡ with_drafts feed.old (transfer_drafts 2 (portions txns) bank.old)) }
 {
     for portion in 0..txns.div_ceil(PORTION) {
-        let count = (txns - PORTION * portion).min(PORTION);
+        let count = portion_of(txns, portion);
         write_portion(alloc, feed, bank, 2 + portion, count)?;
     }
     write_last(alloc, feed, &bank.kept)?;
@@ -89,7 +99,6 @@ fn write_portions(
 
 /// The feed of a bank of three threads and four sessions: twenty tables are made and loaded, and then
 /// so many transfers are made, as the seed draws them.
-#[tactic(auto, unfolding(crate::specs::Generated::drafts))]
 pub fn generate(alloc: Global, seed: u64, txns: u32) -> Result<Bytes, Memory>
     requires { txns ≤ 100000 }
     ensures { IfOk result (λ bytes. bytes ≡ generated seed txns) }
@@ -98,5 +107,6 @@ pub fn generate(alloc: Global, seed: u64, txns: u32) -> Result<Bytes, Memory>
     write_first(alloc, &mut feed)?;
     let mut bank = Bank::new(alloc, seed)?;
     write_portions(alloc, &mut feed, &mut bank, txns)?;
-    feed.finish()
+    let bytes = feed.finish()?;
+    Ok(bytes)
 }

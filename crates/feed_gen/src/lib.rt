@@ -13,6 +13,8 @@ mod record;
 mod second;
 mod source;
 mod table;
+#[cfg(test)]
+mod tests;
 mod transfer;
 mod writer;
 mod writing;

@@ -4,11 +4,11 @@ ghost use Rattle.std.specs.Prelude.{◌≡◌, ◌<◌, ◌≤◌, ◌^◌, ◌+
 ghost use Rattle.feed_gen.specs.Tables.{puts, first_load, second_load, load, creates, loads};
 ghost use Rattle.feed_gen.specs.Written.{with_writings};
 
-use crate::table::{FIRST_BALANCE, ROWS, TABLES, create, put, thread_of};
+use crate::table::{FIRST_BALANCE, ROWS, TABLES, create, put, table_of, thread_of, txn_of};
 use crate::writer::FeedWriter;
 use crate::writing::Writing;
 use adg_base::memory::Memory;
-use adg_base::number::{Obj, Txn};
+use adg_base::number::Obj;
 use adg_base::vector::{Vector, VectorList};
 use std::alloc::Global;
 
@@ -25,7 +25,7 @@ fn push_puts(
     requires rows { from + count ≤ 100 }
     ensures { OnOk result (vectors.new ≡ vectors.old ++ puts table from count) }
 {
-    let txn = Txn::new(u64::from(table.get())).unwrap();
+    let txn = txn_of(table);
     for row in from..from + count {
         vectors.push(put(alloc, txn, table, row, FIRST_BALANCE)?)?;
     }
@@ -38,7 +38,7 @@ fn first_load(alloc: Global, table: Obj) -> Result<Writing, Memory>
     requires { table ≤ 20 }
     ensures { IfOk result (λ w. w ≡ first_load table) }
 {
-    let txn = Txn::new(u64::from(table.get())).unwrap();
+    let txn = txn_of(table);
     let mut vectors = VectorList::new(alloc);
     vectors.push(Vector::Begin { txn })?;
     push_puts(alloc, &mut vectors, table, 0, ROWS / 2)?;
@@ -54,7 +54,7 @@ fn second_load(alloc: Global, table: Obj) -> Result<Writing, Memory>
     requires { table ≤ 20 }
     ensures { IfOk result (λ w. w ≡ second_load table) }
 {
-    let txn = Txn::new(u64::from(table.get())).unwrap();
+    let txn = txn_of(table);
     let mut vectors = VectorList::new(alloc);
     push_puts(alloc, &mut vectors, table, ROWS / 2, ROWS / 2)?;
     vectors.push(Vector::Commit { txn, flag: true })?;
@@ -81,8 +81,8 @@ fn write_creates(alloc: Global, feed: &mut FeedWriter) -> Result<(), Memory>
     requires { feed.old.records < 2 ^ 29 }
     ensures { OnOk result (feed.new ≡ with_writings feed.old creates) }
 {
-    for number in 1..u16::from(TABLES) + 1 {
-        let table = Obj::new(number).unwrap();
+    for number in 1..TABLES + 1 {
+        let table = table_of(number);
         let record = create(alloc, table)?;
         feed.write(alloc, record)?;
     }
@@ -94,8 +94,8 @@ fn write_loads(alloc: Global, feed: &mut FeedWriter) -> Result<(), Memory>
     requires { feed.old.records < 2 ^ 29 }
     ensures { OnOk result (feed.new ≡ with_writings feed.old loads) }
 {
-    for number in 1..u16::from(TABLES) + 1 {
-        let table = Obj::new(number).unwrap();
+    for number in 1..TABLES + 1 {
+        let table = table_of(number);
         write_load(alloc, feed, table)?;
     }
     Ok(())

@@ -29,6 +29,21 @@ pub const BRANCH_ROWS: u8 = 20;
 /// What each row has at first.
 pub const FIRST_BALANCE: i64 = 1_000;
 
+/// The table of a number.
+pub fn table_of(number: u8) -> Obj
+    requires { 1 ≤ number }
+    ensures { result ≡ number }
+{
+    Obj::new(u16::from(number)).unwrap()
+}
+
+/// The transaction that loads a table.
+pub fn txn_of(table: Obj) -> Txn
+    ensures { result ≡ table }
+{
+    Txn::new(u64::from(table.get())).unwrap()
+}
+
 /// The thread that writes a table.
 pub fn thread_of(table: Obj) -> u8
     ensures { result ≡ thread_of table }

@@ -5,7 +5,7 @@ ghost use Rattle.feed_gen.specs.Draws.{next, below, draws, drawn};
 ghost use Rattle.feed_gen.specs.Bounds.{IsTransfer};
 
 use crate::source::RandomSource;
-use crate::table::{BRANCH_ROWS, BRANCHES, TABLES};
+use crate::table::{BRANCH_ROWS, BRANCHES, TABLES, table_of};
 use adg_base::number::Obj;
 
 /// A transfer between two rows of one branch of a table.
@@ -44,7 +44,7 @@ pub fn draw(source: &mut RandomSource) -> Transfer
     let amount = source.below(100);
     let aborts = source.below(8) == 0;
     Transfer {
-        table: Obj::new(u16::from(table)).unwrap(),
+        table: table_of(table),
         from,
         to,
         amount,
