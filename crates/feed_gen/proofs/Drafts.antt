@@ -93,15 +93,26 @@ unfolding transfer_asked
 transfer_asked_good delivery s h =
     let again = again_good delivery s h in
     let abort = abort_good delivery s h in
-    let own = asks_own Sums s all_tables in
-    (each_append IsAsked (again_asked delivery s ++ own) (abort_asked delivery s) (each_append IsAsked (again_asked delivery s) own again.0 (own_good s Sums all_tables h all_few)) abort.0,
-    omega (arith, again.1, abort.1, own_len s Sums all_tables, all_len, length-append (again_asked delivery s ++ own) (abort_asked delivery s), length-append (again_asked delivery s) own))
+    let own = asks_own Sums s all_tables in (
+      each_append IsAsked (again_asked delivery s ++ own) (abort_asked delivery s) (each_append IsAsked (again_asked delivery s) own again.0 (own_good s Sums all_tables h all_few)) abort.0,
+      omega (arith, again.1, abort.1, own_len s Sums all_tables, all_len, length-append (again_asked delivery s ++ own) (abort_asked delivery s), length-append (again_asked delivery s) own),
+    )
 
 sessions_good : (f : ℕ → List Asking) → ((s : ℕ) → IsIn 4 s → AllByRecursion IsAsked (f s) × (length (f s) ≤ 50)) → AllByRecursion IsAsked (of_sessions f) × (length (of_sessions f) ≤ 200)
-sessions_good f h =
-    (each_flat_range IsAsked f 1 4 (λ s a b. (h s (a, omega (arith, b))).0),
-    omega (arith, (h 1 (omega arith, omega arith)).1, (h 2 (omega arith, omega arith)).1, (h 3 (omega arith, omega arith)).1, (h 4 (omega arith, omega arith)).1,
-      length-append (f 1) (f 2 ++ (f 3 ++ (f 4 ++ []))), length-append (f 2) (f 3 ++ (f 4 ++ [])), length-append (f 3) (f 4 ++ []), length-append (f 4) []))
+sessions_good f h = (
+  each_flat_range IsAsked f 1 4 (λ s a b. (h s (a, omega (arith, b))).0),
+  omega (
+    arith,
+    (h 1 (omega arith, omega arith)).1,
+    (h 2 (omega arith, omega arith)).1,
+    (h 3 (omega arith, omega arith)).1,
+    (h 4 (omega arith, omega arith)).1,
+    length-append (f 1) (f 2 ++ (f 3 ++ (f 4 ++ []))),
+    length-append (f 2) (f 3 ++ (f 4 ++ [])),
+    length-append (f 3) (f 4 ++ []),
+    length-append (f 4) [],
+  ),
+)
 
 counts_good : (tables : List ℕ) → AreTables tables → AllByRecursion IsAsked (map (λ k. ask 1 (command_of CountsAndSums k)) tables)
 counts_good [] few = tt
@@ -128,8 +139,14 @@ opening_good =
 
 kept_len : (kept : Kept) → length (all_kept kept) ≤ 3
 kept_len kept =
-    omega (arith, left_over_len 1 kept.one, left_over_len 2 kept.two, left_over_len 3 kept.three,
-      length-append (left_over 1 kept.one ++ left_over 2 kept.two) (left_over 3 kept.three), length-append (left_over 1 kept.one) (left_over 2 kept.two))
+    omega (
+      arith,
+      left_over_len 1 kept.one,
+      left_over_len 2 kept.two,
+      left_over_len 3 kept.three,
+      length-append (left_over 1 kept.one ++ left_over 2 kept.two) (left_over 3 kept.three),
+      length-append (left_over 1 kept.one) (left_over 2 kept.two),
+    )
 
 last_good : (bank : Bank) → IsSteady bank → IsDraft (last_draft bank.kept)
 last_good bank h = record {
@@ -153,9 +170,10 @@ transfer_good delivery n bank few all h =
 
 transfer_drafts_good : (ns : List ℕ) (delivery : ℕ) (bank : Bank) → ArePortions ns → bank.made + total ns ≤ 100000 → IsSteady bank → AllByRecursion IsDraft (transfer_drafts delivery ns bank)
 transfer_drafts_good [] delivery bank few all h = (last_good bank h, tt)
-transfer_drafts_good (n ∷ ns) delivery bank few all h =
-    (transfer_good delivery n bank few.0 (omega (arith, all)) h,
-    transfer_drafts_good ns (delivery + 1) (after_transfers n bank) few.1 (omega (arith, all, made_by n bank)) (steady_by n bank (omega (arith, all)) h))
+transfer_drafts_good (n ∷ ns) delivery bank few all h = (
+  transfer_good delivery n bank few.0 (omega (arith, all)) h,
+  transfer_drafts_good ns (delivery + 1) (after_transfers n bank) few.1 (omega (arith, all, made_by n bank)) (steady_by n bank (omega (arith, all)) h),
+)
 
 drafts_len : (ns : List ℕ) (delivery : ℕ) (bank : Bank) → length (transfer_drafts delivery ns bank) ≡ length ns + 1
 drafts_len [] delivery bank = refl
@@ -304,8 +322,15 @@ transfers_count (suc n) bank = omega (arith, transfer_count bank, transfers_coun
 
 closing_count : (kept : Kept) → length (closing kept) ≡ kept_count kept + 3
 closing_count kept =
-    omega (arith, left_count 1 kept.one, left_count 2 kept.two, left_count 3 kept.three, length-append (all_kept kept) ends,
-      length-append (left_over 1 kept.one ++ left_over 2 kept.two) (left_over 3 kept.three), length-append (left_over 1 kept.one) (left_over 2 kept.two))
+    omega (
+      arith,
+      left_count 1 kept.one,
+      left_count 2 kept.two,
+      left_count 3 kept.three,
+      length-append (all_kept kept) ends,
+      length-append (left_over 1 kept.one ++ left_over 2 kept.two) (left_over 3 kept.three),
+      length-append (left_over 1 kept.one) (left_over 2 kept.two),
+    )
 
 drafts_count : (ns : List ℕ) (delivery : ℕ) (bank : Bank) → length (all_written (transfer_drafts delivery ns bank)) ≡ kept_count bank.kept + 2 * total ns + 3
 drafts_count [] delivery bank = omega (arith, closing_count bank.kept, length-append (closing bank.kept) [])

@@ -125,7 +125,7 @@ closing_vectors kept =
     let last = EndThread ∷ EndThread ∷ EndThread ∷ [] in
     vectors_append (all_kept kept) ends
     ∙ ap (λ l. l ++ last) (vectors_append (left_over 1 kept.one ++ left_over 2 kept.two) (left_over 3 kept.three)
-      ∙ ap₂ (λ x y. x ++ y) (vectors_append (left_over 1 kept.one) (left_over 2 kept.two) ∙ ap₂ (λ x y. x ++ y) (left_over_vectors 1 kept.one) (left_over_vectors 2 kept.two)) (left_over_vectors 3 kept.three))
+    ∙ ap₂ (λ x y. x ++ y) (vectors_append (left_over 1 kept.one) (left_over 2 kept.two) ∙ ap₂ (λ x y. x ++ y) (left_over_vectors 1 kept.one) (left_over_vectors 2 kept.two)) (left_over_vectors 3 kept.three))
     ∙ append_assoc (left_vectors kept.one ++ left_vectors kept.two) (left_vectors kept.three) last
     ∙ append_assoc (left_vectors kept.one) (left_vectors kept.two) (left_vectors kept.three ++ last)
 
@@ -172,9 +172,10 @@ loads_pass a (suc n) db some few h =
     let db1 = made_by db (load_of a 50 50) in
     let later = loads_pass (a + 1) n db1 (omega arith) (omega (arith, few)) first.1 in
     let e : a + 1 + n ≡ a + suc n = omega arith in
-    let split : all_vectors (load a ++ rest) ≡ load_of a 50 50 ++ all_vectors rest = vectors_append (load a) rest ∙ ap (λ l. l ++ all_vectors rest) (load_vectors a) in
-    (subst (Passes db) (sym split) (passes_append db (load_of a 50 50) (all_vectors rest) first.0 later.0),
-    subst (λ vs. Stands (a + suc n) (made_by db vs)) (sym split) (subst (Stands (a + suc n)) (sym (made_append db (load_of a 50 50) (all_vectors rest))) (subst (λ m. Stands m (made_by db1 (all_vectors rest))) e later.1)))
+    let split : all_vectors (load a ++ rest) ≡ load_of a 50 50 ++ all_vectors rest = vectors_append (load a) rest ∙ ap (λ l. l ++ all_vectors rest) (load_vectors a) in (
+      subst (Passes db) (sym split) (passes_append db (load_of a 50 50) (all_vectors rest) first.0 later.0),
+      subst (λ vs. Stands (a + suc n) (made_by db vs)) (sym split) (subst (Stands (a + suc n)) (sym (made_append db (load_of a 50 50) (all_vectors rest))) (subst (λ m. Stands m (made_by db1 (all_vectors rest))) e later.1)),
+    )
 
 opening_passes : Passes no_database (all_vectors (creates ++ loads)) × Stands 21 (made_by no_database (all_vectors (creates ++ loads)))
 unfolding creates loads
@@ -184,9 +185,10 @@ opening_passes =
     let first = creates_pass 1 20 no_database created_first in
     let db1 = made_by no_database (creates_of 1 20) in
     let later = loads_pass 1 20 db1 (omega arith) (omega arith) (created_stands db1 first.1) in
-    let split : all_vectors (made ++ loaded) ≡ creates_of 1 20 ++ all_vectors loaded = vectors_append made loaded ∙ ap (λ l. l ++ all_vectors loaded) (creates_vectors 1 20) in
-    (subst (Passes no_database) (sym split) (passes_append no_database (creates_of 1 20) (all_vectors loaded) first.0 later.0),
-    subst (λ vs. Stands 21 (made_by no_database vs)) (sym split) (subst (Stands 21) (sym (made_append no_database (creates_of 1 20) (all_vectors loaded))) later.1))
+    let split : all_vectors (made ++ loaded) ≡ creates_of 1 20 ++ all_vectors loaded = vectors_append made loaded ∙ ap (λ l. l ++ all_vectors loaded) (creates_vectors 1 20) in (
+      subst (Passes no_database) (sym split) (passes_append no_database (creates_of 1 20) (all_vectors loaded) first.0 later.0),
+      subst (λ vs. Stands 21 (made_by no_database vs)) (sym split) (subst (Stands 21) (sym (made_append no_database (creates_of 1 20) (all_vectors loaded))) later.1),
+    )
 
 opened_holds : (seed : ℕ) (db : Database) → Stands 21 db → Holds (number_of (opened seed)) nothing_kept db
 opened_holds seed db h = record {

@@ -24,8 +24,10 @@ use Rattle.feed_gen.proofs.Drafts.{all_drafts_good, all_drafts_len, written_good
 pub whole_feed : IsWholeFeed
 unfolding generated generated_deliveries
 whole_feed seed txns few = record {
-  feed = (((omega arith, omega arith), (omega arith, omega arith)),
-    drafts_good (start 3 4) 1 (drafts seed txns) refl refl (all_drafts_good seed txns few) (omega (arith, all_drafts_len seed txns few)) (omega (arith, all_drafts_len seed txns few)));
+  feed = (
+    ((omega arith, omega arith), (omega arith, omega arith)),
+    drafts_good (start 3 4) 1 (drafts seed txns) refl refl (all_drafts_good seed txns few) (omega (arith, all_drafts_len seed txns few)) (omega (arith, all_drafts_len seed txns few)),
+  );
   spelled = sym (append-nil _);
 }
 

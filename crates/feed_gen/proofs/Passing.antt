@@ -251,8 +251,11 @@ load_passes k n m db h some few stands =
     let noted = front.2 (λ e. absurd (omega (arith, e, some))) in
     let db1 = made_by db0 (puts k 0 n) in
     let back = puts_pass k n m db1 h few front.1 in
-    let db2 = made_by db1 (puts k n m) in
-    ((begin_passes db k (stands.begun k (omega arith)),
-      passes_append db0 (puts k 0 n) (puts k n m ++ Commit k true ∷ []) front.0
-      (passes_append db1 (puts k n m) (Commit k true ∷ []) back.0 (commit_passes db2 k back.1.busy (back.2 (λ e. noted)), tt))),
-    stands_by k k (k + 1) db (load_of k n m) (load_is_of k n m) (omega arith) (omega arith) stands)
+    let db2 = made_by db1 (puts k n m) in (
+      (
+        begin_passes db k (stands.begun k (omega arith)),
+        passes_append db0 (puts k 0 n) (puts k n m ++ Commit k true ∷ []) front.0
+            (passes_append db1 (puts k n m) (Commit k true ∷ []) back.0 (commit_passes db2 k back.1.busy (back.2 (λ e. noted)), tt)),
+      ),
+      stands_by k k (k + 1) db (load_of k n m) (load_is_of k n m) (omega arith) (omega arith) stands,
+    )

@@ -84,11 +84,16 @@ second_passes from s db stands h = by_fate s.aborts
     first = put_passes db s.txn s.table s.to s.balance h.busy there h.good.table h.good.to
 
     by_fate : (b : Bool) → Passes db (put s.txn s.table s.to s.balance ∷ cond b (undo s.txn s.table s.to ∷ undo s.txn s.table s.from ∷ Abort s.txn ∷ []) (Commit s.txn true ∷ []))
-    by_fate true =
-        (first,
-        (undo_passes db1 s.txn s.table s.to busy1 there h.good.table h.good.to (has_first (place_at s.table s.to) change (h.first ∷ h.rest) (db1.pending s.txn) pending1 refl),
-        (undo_passes db2 s.txn s.table s.from busy2 there h.good.table h.good.from (has_first (place_at s.table s.from) h.first h.rest (db2.pending s.txn) pending2 h.at),
-        (abort_passes db3 s.txn busy3, tt))))
+    by_fate true = (
+      first,
+      (
+        undo_passes db1 s.txn s.table s.to busy1 there h.good.table h.good.to (has_first (place_at s.table s.to) change (h.first ∷ h.rest) (db1.pending s.txn) pending1 refl),
+        (
+          undo_passes db2 s.txn s.table s.from busy2 there h.good.table h.good.from (has_first (place_at s.table s.from) h.first h.rest (db2.pending s.txn) pending2 h.at),
+          (abort_passes db3 s.txn busy3, tt),
+        ),
+      ),
+    )
     by_fate false = (first, (commit_passes db1 s.txn busy1 (put_noted db s.txn s.table s.to s.balance there), tt))
 
 second_is_of : (s : Second) → AllByRecursion (OfTxn s.txn) (second_vectors s)
@@ -172,15 +177,18 @@ first_passes n t balance credit a b db good stands x y =
     record {
       passes = (begin_passes db n (stands.begun n (omega arith)), (put_passes db1 n t.table t.from balance busy there good.table good.from, tt));
       stands = stands_by n n (n + 1) db (first_vectors n t balance) of (omega arith) (omega arith) stands;
-      mine = (record {
-        good = second_good n t credit good;
-        busy = record { begun = busy.begun; ended = busy.ended };
-        noted = put_noted db1 n t.table t.from balance there;
-        first = record { at = place_at t.table t.from; row = Some (values t.from balance) };
-        rest = db1.pending n;
-        at = refl;
-        pending = set_same n _ db1.pending;
-      }, omega arith);
+      mine = (
+        record {
+          good = second_good n t credit good;
+          busy = record { begun = busy.begun; ended = busy.ended };
+          noted = put_noted db1 n t.table t.from balance there;
+          first = record { at = place_at t.table t.from; row = Some (values t.from balance) };
+          rest = db1.pending n;
+          at = refl;
+          pending = set_same n _ db1.pending;
+        },
+        omega arith,
+      );
       a_open = open_by n n (n + 1) a db (first_vectors n t balance) of (is_new n a db x) (omega arith) x;
       b_open = open_by n n (n + 1) b db (first_vectors n t balance) of (is_new n b db y) (omega arith) y;
       a_apart = is_new n a db x;

@@ -54,9 +54,9 @@ runs_more count i first bank after w v x lt h after_is x_is =
       made = ap (λ (b : Bank). b.made) after_is ∙ omega (arith, made_after bank, h.made);
       bank_is = ap (after_transfers (count - (i + 1))) after_is ∙ sym (ap (λ n. after_transfers n bank) e) ∙ h.bank_is;
       feed_is = ap₂ (λ x b. with_writings x (transfers (count - (i + 1)) b)) x_is after_is
-        ∙ with_writings_then v (transfer_writings bank) (transfers (count - (i + 1)) (after_transfer bank))
-        ∙ sym (ap (λ n. with_writings v (transfers n bank)) e)
-        ∙ h.feed_is;
+          ∙ with_writings_then v (transfer_writings bank) (transfers (count - (i + 1)) (after_transfer bank))
+          ∙ sym (ap (λ n. with_writings v (transfers n bank)) e)
+          ∙ h.feed_is;
     }
 
 pub runs_room : (count i : ℕ) (first bank : Bank) (w v : Written) → Runs count i first bank w v → v.records ≤ w.records + 2 * count
@@ -91,9 +91,9 @@ goes_one txns i n bank after v x all lt h after_is x_is =
       made = omega (arith, h.made, made);
       room = omega (arith, h.room, made, ap (λ (w : Written). w.records) x_is, transfers_len (portion_of txns i) bank);
       whole = ap₂ (λ x b. with_drafts x (transfer_drafts (2 + (i + 1)) rest b)) x_is after_is
-        ∙ ap (λ k. with_drafts (with_draft v (transfer_draft (2 + i) (portion_of txns i) bank)) (transfer_drafts k rest (after_transfers (portion_of txns i) bank))) d
-        ∙ sym (ap (λ k. with_drafts v (transfer_drafts (2 + i) (map (portion_of txns) (range_with_len i k)) bank)) e)
-        ∙ h.whole;
+          ∙ ap (λ k. with_drafts (with_draft v (transfer_draft (2 + i) (portion_of txns i) bank)) (transfer_drafts k rest (after_transfers (portion_of txns i) bank))) d
+          ∙ sym (ap (λ k. with_drafts v (transfer_drafts (2 + i) (map (portion_of txns) (range_with_len i k)) bank)) e)
+          ∙ h.whole;
     }
 
 pub goes_more : (txns i n count : ℕ) (bank after : Bank) (v x all : Written) → i < n → count ≡ portion_of txns i → GoesOn txns i n bank v all → after ≡ after_transfers count bank → x ≡ with_draft v (transfer_draft (2 + i) count bank) → GoesOn txns (i + 1) n after x all

@@ -66,8 +66,10 @@ put_small count txn table row balance t o r b =
     let block = block_few table row o in
     let slot = slot_few table row r in
     record {
-      spelled = (record { good_txn = t; good_obj = (o.0, omega (arith, o.1)); good_block = omega (arith, block, o.1); good_slot = omega (arith, slot) },
-        record { some = omega arith; few = omega arith; values = (omega (arith, ints), (fits_small balance b, (good.text, tt))) });
+      spelled = (
+        record { good_txn = t; good_obj = (o.0, omega (arith, o.1)); good_block = omega (arith, block, o.1); good_slot = omega (arith, slot) },
+        record { some = omega arith; few = omega arith; values = (omega (arith, ints), (fits_small balance b, (good.text, tt))) },
+      );
       few = omega (arith, put_len txn table row balance, good.few);
     }
 

@@ -66,9 +66,10 @@ here st before (Schedules b) h f k = (h, f)
 
 pub are_items : (st : Standing) (before items : List Item) → AllByRecursion (IsPlain st) items → payload_total before + payload_total items ≤ 33554432 → st.redo + redo_total before + redo_total items ≤ 4294967295 → ((s : ℕ) → asked s before + asked s items ≤ 1024) → AreItems st before items
 are_items st before [] h p r k = tt
-are_items st before (i ∷ items) h p r k =
-    (here st before i h.0 (fits_here st before i items p r) (λ s. omega (arith, k s, asked_cons s i items)),
-    are_items st (before ++ i ∷ []) items h.1 (omega (arith, p, payload_more before i, payload_cons i items)) (omega (arith, r, redo_more before i, redo_cons i items)) (λ s. omega (arith, k s, asked_cons s i items, asked_more s before i)))
+are_items st before (i ∷ items) h p r k = (
+  here st before i h.0 (fits_here st before i items p r) (λ s. omega (arith, k s, asked_cons s i items)),
+  are_items st (before ++ i ∷ []) items h.1 (omega (arith, p, payload_more before i, payload_cons i items)) (omega (arith, r, redo_more before i, redo_cons i items)) (λ s. omega (arith, k s, asked_cons s i items, asked_more s before i)),
+)
 
 -- ---- the items of a delivery
 
@@ -139,6 +140,7 @@ draft_good st scn d three four h room =
 
 pub drafts_good : (st : Standing) (scn : ℕ) (ds : List Draft) → st.threads ≡ 3 → st.sessions ≡ 4 → AllByRecursion IsDraft ds → st.redo + 6101000 * length ds ≤ 4294967295 → st.ends + length ds ≤ 65535 → AreDeliveries st (drafts_items scn ds)
 drafts_good st scn [] three four h room few = tt
-drafts_good st scn (d ∷ ds) three four h room few =
-    ((draft_good st scn d three four h.0 (omega (arith, room)), omega (arith, few)),
-    drafts_good (after_delivery st (draft_items scn d)) (scn + length d.written) ds three four h.1 (omega (arith, room, draft_redo scn d h.0)) (omega (arith, few)))
+drafts_good st scn (d ∷ ds) three four h room few = (
+  (draft_good st scn d three four h.0 (omega (arith, room)), omega (arith, few)),
+  drafts_good (after_delivery st (draft_items scn d)) (scn + length d.written) ds three four h.1 (omega (arith, room, draft_redo scn d h.0)) (omega (arith, few)),
+)

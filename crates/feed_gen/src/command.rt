@@ -105,12 +105,7 @@ fn ask_opening_of(alloc: Global, feed: &mut FeedWriter, session: u8) -> Result<(
 }
 
 /// In the seventh delivery the tables are populated again.
-fn ask_again(
-    alloc: Global,
-    feed: &mut FeedWriter,
-    delivery: u32,
-    session: u8,
-) -> Result<(), Memory>
+fn ask_again(alloc: Global, feed: &mut FeedWriter, delivery: u32, session: u8) -> Result<(), Memory>
     ensures { OnOk result (feed.new ≡ with_asked feed.old (again_asked delivery session)) }
 {
     if delivery == 7 {

@@ -54,13 +54,7 @@ pub fn second_record(alloc: Global, thread: u8, second: &Second) -> Result<Writi
     ensures { IfOk result (λ w. w ≡ writing thread (second_vectors second.now)) }
 {
     let mut vectors = VectorList::new(alloc);
-    vectors.push(put(
-        alloc,
-        second.txn,
-        second.table,
-        second.to,
-        second.balance,
-    )?)?;
+    vectors.push(put(alloc, second.txn, second.table, second.to, second.balance)?)?;
     push_ending(&mut vectors, second)?;
     Ok(Writing { thread, vectors })
 }

@@ -9,13 +9,37 @@ static FEEDS: [Feed; 10] = [
     ("no transfer", 1, 0, 78_962, 0x6649_2535_bc64_1237),
     ("one transfer", 1, 1, 79_911, 0xf99f_b31d_f684_725b),
     ("an aborted one", 136, 1, 79_938, 0xfda8_42aa_fdb7_bdc1),
-    ("less than a delivery", 1, 499, 147_752, 0x047e_daa8_72ff_8dc0),
+    (
+        "less than a delivery",
+        1,
+        499,
+        147_752,
+        0x047e_daa8_72ff_8dc0,
+    ),
     ("a whole delivery", 1, 500, 147_885, 0xbe0b_92e8_c726_a226),
-    ("more than a delivery", 1, 501, 148_834, 0x1bdd_64c1_f550_4bc5),
+    (
+        "more than a delivery",
+        1,
+        501,
+        148_834,
+        0x1bdd_64c1_f550_4bc5,
+    ),
     ("a second seed", 2, 501, 148_822, 0x123c_157a_ec45_0125),
     ("a third seed", 3, 501, 148_756, 0x58dd_60fa_64b8_c47f),
-    ("the last seed", u64::MAX, 501, 148_462, 0xeb8d_d5ea_b95e_0b58),
-    ("an abort of the second session", 1, 3_001, 493_481, 0x3a7d_6243_bb27_8387),
+    (
+        "the last seed",
+        u64::MAX,
+        501,
+        148_462,
+        0xeb8d_d5ea_b95e_0b58,
+    ),
+    (
+        "an abort of the second session",
+        1,
+        3_001,
+        493_481,
+        0x3a7d_6243_bb27_8387,
+    ),
 ];
 
 /// The 64 bits of FNV-1a.
@@ -104,7 +128,8 @@ fn frames_are_counted(rt: HostRuntime) -> Result<(), Fail> {
 }
 
 /// The first frame of redo: table 1 has two extents and three columns, and thread 2 writes it.
-static FIRST: [u8; 29] = *b"R\0\0\0\x18\x02\0\x17\0\0\0\0\0\0\0\x01\x01\x07\0\x01\0\x02\x01\x03\x01\x01\x02\0\x17";
+static FIRST: [u8; 29] =
+    *b"R\0\0\0\x18\x02\0\x17\0\0\0\0\0\0\0\x01\x01\x07\0\x01\0\x02\x01\x03\x01\x01\x02\0\x17";
 
 #[test]
 fn the_first_table_is_made(rt: HostRuntime) -> Result<(), Fail> {

@@ -22,5 +22,5 @@ unfolding generated generated_deliveries drafts
 returns c =
     c.in_ok-bytes.ensures
     ∙ ap with_stop (c.in_ok-write_portions.ensures
-      ∙ ap₂ (λ w b. with_drafts w (transfer_drafts 2 (portions c.args.txns) b)) (c.in_ok-write_first.ensures ∙ ap (λ w. with_draft w opening) c.in_ok-feed.ensures) c.in_ok-bank.ensures)
+    ∙ ap₂ (λ w b. with_drafts w (transfer_drafts 2 (portions c.args.txns) b)) (c.in_ok-write_first.ensures ∙ ap (λ w. with_draft w opening) c.in_ok-feed.ensures) c.in_ok-bank.ensures)
     ∙ all_bytes (drafts c.args.seed c.args.txns)
