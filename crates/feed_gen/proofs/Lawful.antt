@@ -5,18 +5,24 @@ use Rattle.std.proofs.lemmas.List.{length-append}
 use Rattle.std.proofs.lemmas.List.Sums.{sum_by-cons}
 use Rattle.adg_model.specs.Feed.{Item, Standing, start, delivery_of, BeginsFeed, IsFeed}
 use Rattle.adg_model.specs.Database.{Database, after, no_database}
-use Rattle.adg_model.specs.Sound.{refusal, IsSound}
+use Rattle.adg_model.specs.declared.fault.RedoFault.{RedoFault}
+use Rattle.adg_model.specs.Records.{thread_text}
+use Rattle.adg_model.specs.Sound.{refusal, IsSound, IsRedoFault}
 use Rattle.adg_model.specs.Spelling.{IsVector}
-use Rattle.adg_model.specs.Log.{merged_log, ReceivedFrom}
+use Rattle.adg_model.specs.Log.{frontier, merged_log, ReceivedFrom}
 use Rattle.adg_base.specs.declared.vector.Vector.{Vector}
 use Rattle.adg_base.specs.declared.vector.Vector.TheVariants.{Begin, Put, Delete, Undo, Commit, Abort, Create, DropObject, AddColumn, NoInMemory, EndThread}
 use Rattle.feed_gen.specs.declared.writing.Writing.{Writing}
 use Rattle.feed_gen.specs.Generated.{Draft, draft_items, drafts_items, drafts, generated_deliveries, generated}
-use Rattle.feed_gen.specs.Laws.{IsWholeFeed, AreRead, EachIsRead, LastScn}
+use Rattle.feed_gen.specs.Laws.{IsWholeFeed, AreRead, EachIsRead, NoRedoFault, LastScn, LastFrontier}
 use Rattle.feed_gen.proofs.Small.{IsSmall, IsWriting}
 use Rattle.feed_gen.proofs.Whole.{IsDraft, drafts_good}
-use Rattle.feed_gen.proofs.Threads.{records_of, all_written, HasNone, EndsLast, has_records}
+use Rattle.feed_gen.proofs.Threads.{records_of, all_written, HasNone, EndsLast, IsWhole, whole_text, has_records}
 use Rattle.feed_gen.proofs.Merged.{all_vectors, SoundVectors, merged_sound}
+use Rattle.adg_model.proofs.DeliveryLaws.{records_are_determined}
+use Rattle.feed_gen.specs.Transfers.{ends}
+use Rattle.feed_gen.proofs.Last.{ends_frontier, all_ends}
+use Rattle.feed_gen.proofs.NoFault.{no_fault}
 use Rattle.feed_gen.proofs.Passing.{Passes, made_by}
 use Rattle.feed_gen.proofs.History.{vectors_append, history_passes}
 use Rattle.feed_gen.proofs.Drafts.{all_drafts_good, all_drafts_len, written_good, written_few, all_end, all_count}
@@ -86,27 +92,55 @@ written_append : (a b : List Draft) → all_written (a ++ b) ≡ all_written a +
 written_append [] b = refl
 written_append (d ∷ a) b = ap (λ l. d.written ++ l) (written_append a b) ∙ sym (append_assoc d.written (all_written a) (all_written b))
 
-front_read : (ds : List Draft) → AllByRecursion IsWriting (all_written ds) → EndsLast (all_written ds) → length (all_written ds) < 2 ^ 40 → Passes no_database (all_vectors (all_written ds)) → AreRead (map delivery_of (drafts_items 1 ds))
-front_read ds good ends few passes =
+-- what some of the deliveries give
+pub record IsFront (ds : List Draft) : Type 0 where
+  pub good : AllByRecursion IsWriting (all_written ds)
+  pub ends : EndsLast (all_written ds)
+  pub few : length (all_written ds) < 2 ^ 40
+  pub passes : Passes no_database (all_vectors (all_written ds))
+
+mine_received : (ds : List Draft) → IsFront ds → ReceivedFrom 1 (map delivery_of (drafts_items 1 ds)) (records_of 1 1 (all_written ds) ∷ records_of 2 1 (all_written ds) ∷ records_of 3 1 (all_written ds) ∷ [])
+mine_received ds h =
+    let text = λ (thread : ℕ). has_records (thread_text thread (map delivery_of (drafts_items 1 ds))) (records_of thread 1 (all_written ds)) (whole_text thread ds h.good h.ends h.few) in
+    (text 1, (text 2, (text 3, tt)))
+
+front_read : (ds : List Draft) → IsFront ds → AreRead (map delivery_of (drafts_items 1 ds))
+front_read ds h =
     let ws = all_written ds in
     record {
       records = records_of 1 1 ws ∷ records_of 2 1 ws ∷ records_of 3 1 ws ∷ [];
-      received = (has_records 1 ds good ends few, (has_records 2 ds good ends few, (has_records 3 ds good ends few, tt)));
+      received = mine_received ds h;
       all = refl;
-      sound = merged_sound ws good (all_sound ws no_database good passes);
+      sound = merged_sound ws h.good (all_sound ws no_database h.good h.passes);
+    }
+
+front_good : (ds : List Draft) → IsFront ds → (fault : RedoFault) → IsRedoFault 3 (map delivery_of (drafts_items 1 ds)) fault → ⊥
+front_good ds h fault =
+    let read = front_read ds h in
+    no_fault 3 (map delivery_of (drafts_items 1 ds)) read.records read.received read.all read.sound (λ t. (records_of t 1 (all_written ds), whole_text t ds h.good h.ends h.few)) fault.thread fault.number fault.kind
+
+is_front : (seed txns : ℕ) (front back : List Draft) → txns ≤ 100000 → drafts seed txns ≡ front ++ back → IsFront front
+is_front seed txns front back few whole =
+    let split : all_written (drafts seed txns) ≡ all_written front ++ all_written back = ap all_written whole ∙ written_append front back in
+    let len : length (all_written front) ≤ 63 + 2 * txns = omega (arith, all_count seed txns, ap length split, length-append (all_written front) (all_written back)) in
+    record {
+      good = each_front IsWriting (all_written front) (all_written back) (subst (AllByRecursion IsWriting) split (written_good (drafts seed txns) (all_drafts_good seed txns few)));
+      ends = ends_front (all_written front) (all_written back) (subst EndsLast split (all_end seed txns));
+      few = omega (arith, len, few);
+      passes = passes_front no_database (all_vectors (all_written front)) (all_vectors (all_written back)) (subst (Passes no_database) (ap all_vectors split ∙ vectors_append (all_written front) (all_written back)) (history_passes seed txns));
     }
 
 pub each_is_read : EachIsRead
 unfolding generated_deliveries
 each_is_read seed txns few before more e =
-    let ds = drafts seed txns in
-    let s = split_drafts ds 1 before more e in
-    let split : all_written ds ≡ all_written s.front ++ all_written s.back = ap all_written s.whole ∙ written_append s.front s.back in
-    let good = each_front IsWriting (all_written s.front) (all_written s.back) (subst (AllByRecursion IsWriting) split (written_good ds (all_drafts_good seed txns few))) in
-    let ends = ends_front (all_written s.front) (all_written s.back) (subst EndsLast split (all_end seed txns)) in
-    let passes = passes_front no_database (all_vectors (all_written s.front)) (all_vectors (all_written s.back)) (subst (Passes no_database) (ap all_vectors split ∙ vectors_append (all_written s.front) (all_written s.back)) (history_passes seed txns)) in
-    let len : length (all_written s.front) ≤ 63 + 2 * txns = omega (arith, all_count seed txns, ap length split, length-append (all_written s.front) (all_written s.back)) in
-    subst (λ items. AreRead (map delivery_of items)) (sym s.items) (front_read s.front good ends (omega (arith, len, few)) passes)
+    let s = split_drafts (drafts seed txns) 1 before more e in
+    subst (λ items. AreRead (map delivery_of items)) (sym s.items) (front_read s.front (is_front seed txns s.front s.back few s.whole))
+
+pub no_redo_fault : NoRedoFault
+unfolding generated_deliveries
+no_redo_fault seed txns few before more fault e h =
+    let s = split_drafts (drafts seed txns) 1 before more e in
+    front_good s.front (is_front seed txns s.front s.back few s.whole) fault (subst (λ items. IsRedoFault 3 (map delivery_of items) fault) s.items h)
 
 sum_len : (ds : List Draft) → sum_by (λ (d : Draft). length d.written) ds ≡ length (all_written ds)
 sum_len [] = refl
@@ -114,3 +148,18 @@ sum_len (d ∷ ds) = omega (arith, sum_by-cons (λ (d : Draft). length d.written
 
 pub last_scn : LastScn
 last_scn seed txns = sum_len (drafts seed txns) ∙ all_count seed txns
+
+pub last_frontier : LastFrontier
+unfolding generated_deliveries
+last_frontier seed txns few records three received =
+    let ds = drafts seed txns in
+    let ws = all_written ds in
+    let has = all_ends seed txns in
+    let mine = records_of 1 1 ws ∷ records_of 2 1 ws ∷ records_of 3 1 ws ∷ [] in
+    let read = front_read ds (is_front seed txns ds [] few (sym (append-nil ds))) in
+    let same : records ≡ read.records = records_are_determined (map delivery_of (drafts_items 1 ds)) records read.records (three ∙ sym read.all) received read.received in
+    let own : read.records ≡ mine = records_are_determined (map delivery_of (drafts_items 1 ds)) read.records mine read.all read.received (mine_received ds (is_front seed txns ds [] few (sym (append-nil ds)))) in
+    ap frontier (same ∙ own)
+    ∙ ap (λ all. frontier (records_of 1 1 all ∷ records_of 2 1 all ∷ records_of 3 1 all ∷ [])) has.split
+    ∙ ends_frontier has.front
+    ∙ omega (arith, all_count seed txns, ap length has.split, length-append has.front ends)

@@ -12,4 +12,6 @@ pub mod Passing
 pub mod Running
 pub mod History
 pub mod Drafts
+pub mod NoFault
+pub mod Last
 pub mod Lawful

@@ -129,7 +129,7 @@ bytes_of_records : (rs : List RedoRecord) → flat_map record_bytes rs ≡ flat_
 bytes_of_records [] = refl
 bytes_of_records (r ∷ rs) = ap (λ l. record_bytes r ++ l) (bytes_of_records rs)
 
-nothing_wrong : (mark : Mark) → record_fault mark [] ≡ None
+pub nothing_wrong : (mark : Mark) → record_fault mark [] ≡ None
 unfolding record_fault
 nothing_wrong mark = by_end mark.ended
   where
@@ -137,18 +137,25 @@ nothing_wrong mark = by_end mark.ended
     by_end true = refl
     by_end false = refl
 
--- these are the records of the thread's text
-pub has_records : (thread : ℕ) (ds : List Draft) → AllByRecursion IsWriting (all_written ds) → EndsLast (all_written ds) → length (all_written ds) < 2 ^ 40 → HasRecords (thread_text thread (map delivery_of (drafts_items 1 ds))) (records_of thread 1 (all_written ds))
-has_records thread ds h e few =
+-- a text is these records and nothing more
+pub record IsWhole (text : List ℕ) (rs : List RedoRecord) : Type 0 where
+  pub spelled : text ≡ flat_map raw_bytes (map raw_of rs)
+  pub follow : AreRaws first_mark (map raw_of rs)
+  pub readable : AreReadable rs
+
+pub whole_text : (thread : ℕ) (ds : List Draft) → AllByRecursion IsWriting (all_written ds) → EndsLast (all_written ds) → length (all_written ds) < 2 ^ 40 → IsWhole (thread_text thread (map delivery_of (drafts_items 1 ds))) (records_of thread 1 (all_written ds))
+whole_text thread ds h e few =
     let ws = all_written ds in
-    let rs = records_of thread 1 ws in
     record {
-      rest = [];
-      raws = record {
-        spelled = drafts_text thread 1 ds ∙ bytes_of_records rs ∙ sym (append-nil (flat_map raw_bytes (map raw_of rs)));
-        follow = raws_follow thread 1 first_mark ws h e (omega arith) (omega (arith, few)) (λ t. absurd (true≢false (sym t)));
-        part = inl (omega arith);
-        good = nothing_wrong _;
-      };
-      vectors = readable thread 1 ws h;
+      spelled = drafts_text thread 1 ds ∙ bytes_of_records (records_of thread 1 ws);
+      follow = raws_follow thread 1 first_mark ws h e (omega arith) (omega (arith, few)) (λ t. absurd (true≢false (sym t)));
+      readable = readable thread 1 ws h;
     }
+
+-- so they are its records
+pub has_records : (text : List ℕ) (rs : List RedoRecord) → IsWhole text rs → HasRecords text rs
+has_records text rs h = record {
+  rest = [];
+  raws = record { spelled = h.spelled ∙ sym (append-nil (flat_map raw_bytes (map raw_of rs))); follow = h.follow; part = inl (omega arith); good = nothing_wrong _ };
+  vectors = h.readable;
+}

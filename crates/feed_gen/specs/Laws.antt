@@ -3,8 +3,9 @@ use Rattle.std.specs.Prelude.{◌≡◌, ℕ, ◌+◌, ◌*◌, ◌≤◌, List,
 use Rattle.adg_base.specs.declared.vector.RedoRecord.{RedoRecord}
 use Rattle.adg_model.specs.declared.delivery.RawDelivery.{RawDelivery}
 use Rattle.adg_model.specs.Feed.{Item, delivery_of, BeginsFeed}
-use Rattle.adg_model.specs.Log.{merged_log, ReceivedFrom}
-use Rattle.adg_model.specs.Sound.{IsSound}
+use Rattle.adg_model.specs.Log.{frontier, merged_log, ReceivedFrom}
+use Rattle.adg_model.specs.declared.fault.RedoFault.{RedoFault}
+use Rattle.adg_model.specs.Sound.{IsSound, IsRedoFault}
 use Rattle.feed_gen.specs.Generated.{Draft, threads, sessions, drafts, generated_deliveries, generated}
 
 -- The bytes are a whole feed of these deliveries, and nothing behind it.
@@ -23,6 +24,18 @@ abbrev pub EachIsRead : Type 0
 EachIsRead =
     (seed txns : ℕ) → txns ≤ 100000 → (before more : List (List Item)) → generated_deliveries seed txns ≡ before ++ more → AreRead (map delivery_of before)
 
+-- No delivery has a redo fault.
+abbrev pub NoRedoFault : Type 0
+NoRedoFault =
+    (seed txns : ℕ) → txns ≤ 100000 → (before more : List (List Item)) (fault : RedoFault) → generated_deliveries seed txns ≡ before ++ more
+    → IsRedoFault threads (map delivery_of before) fault → ⊥
+
 -- There are so many records, each with the next SCN from 1 on.
 abbrev pub LastScn : Type 0
 LastScn = (seed txns : ℕ) → sum_by (λ (d : Draft). length d.written) (drafts seed txns) ≡ 63 + 2 * txns
+
+-- All threads have ended then, and the last frontier is the last of these SCNs.
+abbrev pub LastFrontier : Type 0
+LastFrontier =
+    (seed txns : ℕ) → txns ≤ 100000 → (records : List (List RedoRecord)) → length records ≡ threads
+    → ReceivedFrom 1 (map delivery_of (generated_deliveries seed txns)) records → frontier records ≡ 63 + 2 * txns
