@@ -1,12 +1,11 @@
 -- Each delivery keeps within the limits of a feed, and no thread writes after its end.
-use Rattle.std.proofs.Common.{◌≡◌, ℕ, zero, suc, ◌+◌, ◌-◌, ◌*◌, ◌/◌, ◌%◌, ◌<◌, ◌≤◌, ◌^◌, Bool, true, false, cond, min, List, [], ◌∷◌, ◌++◌, length, map, filter, take, drop, Option, Some, None, refl, sym, ap, ap₂, ◌∙◌, subst, arith, append_assoc, append-nil, true≢false}
-use Rattle.std.specs.Prelude.{◌==◌, ◌&&◌, codes}
+use Rattle.std.proofs.Common.{◌≡◌, ℕ, zero, suc, ◌+◌, ◌-◌, ◌*◌, ◌≤◌, Bool, true, false, cond, min, List, [], ◌∷◌, ◌++◌, length, map, filter, Option, Some, None, refl, sym, ap, ◌∙◌, subst, arith, append-nil, true≢false}
+use Rattle.std.specs.Prelude.{◌==◌, ◌&&◌}
 use Rattle.std.specs.List.{AllByRecursion, flat_map, range_with_len}
 use Rattle.std.specs.Int.{div_ceil}
 use Rattle.std.proofs.lemmas.List.{length-append}
 use Rattle.std.proofs.lemmas.Bool.Decides.{nat_tests}
 use Rattle.std.proofs.lemmas.List.FromFn.{length-map-range_with_len, length-range_with_len}
-use Rattle.adg_base.specs.declared.command.Command.{Command}
 use Rattle.adg_base.specs.declared.command.Command.TheVariants as command
 use Rattle.adg_base.specs.declared.vector.Vector.TheVariants.{Commit, Abort}
 use Rattle.adg_model.specs.Feed.{IsIn}
@@ -21,14 +20,13 @@ use Rattle.feed_gen.specs.declared.second.Kept.{Kept}
 use Rattle.feed_gen.specs.declared.second.Second.{Second}
 use Rattle.feed_gen.specs.Draws.{drawn}
 use Rattle.feed_gen.specs.Tables.{thread_of, writing, put, undo, first_balance, create, puts, first_load, second_load, load, creates, loads}
-use Rattle.feed_gen.specs.Transfers.{debited, credited, number_of, first_record, second_of, second_vectors, kept_by, with_kept, left_over, all_kept, end_of, ends, closing, opened, transfer_writings, after_transfer, transfers, after_transfers}
+use Rattle.feed_gen.specs.Transfers.{debited, credited, number_of, first_record, second_of, second_vectors, kept_by, with_kept, left_over, all_kept, ends, closing, opened, transfer_writings, after_transfer, transfers, after_transfers}
 use Rattle.feed_gen.specs.Commands.{Asking, ask, command_of, is_own, asks_own, all_tables, opening_asked, again_asked, abort_asked, transfer_asked, closing_asked, of_sessions}
 use Rattle.feed_gen.specs.Generated.{Draft, portion_of, portions, opening, transfer_draft, last_draft, transfer_drafts, drafts}
-use Rattle.feed_gen.proofs.Good.{made_after}
 use Rattle.feed_gen.proofs.Texts.{text_few}
 use Rattle.feed_gen.proofs.Small.{IsWriting, creates_good, loads_good, transfers_good, closing_good, transfers_len, left_over_len, IsSteady, steady_by, made_by, opened_steady, each_flat_range}
 use Rattle.feed_gen.proofs.Loops.{loaded_len, created_len}
-use Rattle.feed_gen.proofs.Threads.{all_written, ends_thread, HasNone, EndsLast}
+use Rattle.feed_gen.proofs.Threads.{all_written, ends_thread, EndsLast}
 use Rattle.feed_gen.proofs.Whole.{IsAsked, IsDraft}
 
 -- ---- what is asked

@@ -1,5 +1,5 @@
 -- What is drawn and what the bank holds keep to their bounds.
-use Rattle.std.proofs.Common.{◌≡◌, ◌≢◌, ℕ, zero, suc, ◌+◌, ◌-◌, ◌*◌, ◌<◌, ◌≤◌, Bool, true, false, cond, List, Option, Some, None, length, get_or, set, refl, sym, ap, ◌∙◌, subst, arith, inl, inr, replicate, length-set, get_or-set_same, get_or-set_other}
+use Rattle.std.proofs.Common.{◌≡◌, ℕ, zero, suc, ◌+◌, ◌*◌, ◌<◌, ◌≤◌, Bool, true, false, cond, List, Some, get_or, set, refl, sym, ◌∙◌, subst, arith, inl, inr, replicate, length-set, get_or-set_same, get_or-set_other}
 use Rattle.std.specs.Prelude.{ℤ, pos, negsuc, ◌≤ℤ◌, ◌+ℤ◌, ◌-ℤ◌, ◌==◌}
 use Rattle.std.proofs.lemmas.Int.{ints}
 use Rattle.std.proofs.lemmas.Bool.{cases_eq}
@@ -11,7 +11,7 @@ use Rattle.feed_gen.specs.declared.bank.Bank.{Bank}
 use Rattle.feed_gen.specs.Draws.{below, drawn}
 use Rattle.feed_gen.specs.Tables.{thread_of, first_balance}
 use Rattle.feed_gen.specs.Transfers.{place_of, balance_of, with_balance, debited, standing, credited, settled, second_of, with_kept, number_of, after_transfer, after_transfers, opened, first_balances}
-use Rattle.feed_gen.specs.Bounds.{IsTransfer, IsSecond, IsKept, AreKept, IsWithin, AreWithin, IsGood}
+use Rattle.feed_gen.specs.Bounds.{IsTransfer, IsSecond, AreKept, IsWithin, AreWithin, IsGood}
 
 pub drawn_good : (source : ℕ) → IsTransfer (drawn source)
 unfolding below

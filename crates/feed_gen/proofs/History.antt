@@ -1,7 +1,7 @@
 -- All that is written passes the checks of a log.
-use Rattle.std.proofs.Common.{◌≡◌, ℕ, zero, suc, ◌+◌, ◌-◌, ◌*◌, ◌<◌, ◌≤◌, Bool, true, false, cond, List, [], ◌∷◌, ◌++◌, map, length, Option, Some, None, refl, sym, ap, ap₂, ◌∙◌, subst, arith, append_assoc, append-nil}
+use Rattle.std.proofs.Common.{◌≡◌, ℕ, zero, suc, ◌+◌, ◌≤◌, Bool, true, false, cond, List, [], ◌∷◌, ◌++◌, map, Option, Some, None, refl, sym, ap, ap₂, ◌∙◌, subst, arith, append_assoc, append-nil}
 use Rattle.std.specs.Prelude.{◌==◌, ℤ}
-use Rattle.std.specs.List.{AllByRecursion, flat_map, range_with_len}
+use Rattle.std.specs.List.{flat_map, range_with_len}
 use Rattle.std.proofs.lemmas.Grind.{flat_map-append}
 use Rattle.adg_base.specs.declared.vector.Vector.{Vector}
 use Rattle.adg_base.specs.declared.vector.Vector.TheVariants.{Create, Commit, EndThread}
@@ -14,13 +14,13 @@ use Rattle.feed_gen.specs.declared.bank.Bank.{Bank}
 use Rattle.feed_gen.specs.Draws.{drawn}
 use Rattle.feed_gen.specs.Tables.{thread_of, extents_of, kinds, puts, create, first_load, second_load, load, creates, loads}
 use Rattle.feed_gen.specs.Transfers.{debited, credited, second_of, first_record, number_of, kept_by, with_kept, left_over, all_kept, ends, closing, nothing_kept, opened, transfer_writings, after_transfer, transfers, after_transfers}
-use Rattle.feed_gen.specs.Generated.{Draft, portions, transfer_drafts, drafts}
-use Rattle.feed_gen.specs.Bounds.{IsTable, IsTransfer}
+use Rattle.feed_gen.specs.Generated.{portions, transfer_drafts, drafts}
+use Rattle.feed_gen.specs.Bounds.{IsTransfer}
 use Rattle.feed_gen.proofs.Good.{drawn_good, made_after}
 use Rattle.feed_gen.proofs.Threads.{all_written}
 use Rattle.feed_gen.proofs.Merged.{all_vectors}
-use Rattle.feed_gen.proofs.Passing.{Passes, made_by, passes_append, made_append, Stands, Created, creates_of, creates_pass, created_first, created_stands, load_of, load_passes}
-use Rattle.feed_gen.proofs.Running.{Open, IsNot, Apart, apart_turned, left_vectors, Left, left_passes, first_vectors, Begun, first_passes}
+use Rattle.feed_gen.proofs.Passing.{Passes, made_by, passes_append, made_append, Stands, creates_of, creates_pass, created_first, created_stands, load_of, load_passes}
+use Rattle.feed_gen.proofs.Running.{Open, IsNot, Apart, apart_turned, left_vectors, left_passes, first_vectors, first_passes}
 
 pub vectors_append : (a b : List Writing) → all_vectors (a ++ b) ≡ all_vectors a ++ all_vectors b
 vectors_append a b = flat_map-append (λ (w : Writing). w.vectors) a b

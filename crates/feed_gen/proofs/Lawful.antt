@@ -1,31 +1,31 @@
 -- The laws of the generated feed.
-use Rattle.std.proofs.Common.{◌≡◌, ℕ, zero, suc, ◌+◌, ◌-◌, ◌*◌, ◌<◌, ◌≤◌, ◌^◌, List, [], ◌∷◌, ◌++◌, length, map, take, drop, refl, sym, ap, ap₂, ◌∙◌, subst, arith, append_assoc, append-nil}
-use Rattle.std.specs.List.{AllByRecursion, flat_map, sum_by}
+use Rattle.std.proofs.Common.{◌≡◌, ℕ, ◌+◌, ◌*◌, ◌<◌, ◌≤◌, ◌^◌, List, [], ◌∷◌, ◌++◌, length, map, refl, sym, ap, ap₂, ◌∙◌, subst, arith, append_assoc, append-nil}
+use Rattle.std.specs.List.{AllByRecursion, sum_by}
 use Rattle.std.proofs.lemmas.List.{length-append}
 use Rattle.std.proofs.lemmas.List.Sums.{sum_by-cons}
-use Rattle.adg_model.specs.Feed.{Item, Standing, start, delivery_of, BeginsFeed, IsFeed}
+use Rattle.adg_model.specs.Feed.{Item, start, delivery_of}
 use Rattle.adg_model.specs.Database.{Database, after, no_database}
 use Rattle.adg_model.specs.declared.fault.RedoFault.{RedoFault}
 use Rattle.adg_model.specs.Records.{thread_text}
-use Rattle.adg_model.specs.Sound.{refusal, IsSound, IsRedoFault}
+use Rattle.adg_model.specs.Sound.{IsRedoFault}
 use Rattle.adg_model.specs.Spelling.{IsVector}
-use Rattle.adg_model.specs.Log.{frontier, merged_log, ReceivedFrom}
+use Rattle.adg_model.specs.Log.{frontier, ReceivedFrom}
 use Rattle.adg_base.specs.declared.vector.Vector.{Vector}
 use Rattle.adg_base.specs.declared.vector.Vector.TheVariants.{Begin, Put, Delete, Undo, Commit, Abort, Create, DropObject, AddColumn, NoInMemory, EndThread}
 use Rattle.feed_gen.specs.declared.writing.Writing.{Writing}
 use Rattle.feed_gen.specs.Generated.{Draft, draft_items, drafts_items, drafts, generated_deliveries, generated}
 use Rattle.feed_gen.specs.Laws.{IsWholeFeed, AreRead, EachIsRead, NoRedoFault, LastScn, LastFrontier}
 use Rattle.feed_gen.proofs.Small.{IsSmall, IsWriting}
-use Rattle.feed_gen.proofs.Whole.{IsDraft, drafts_good}
-use Rattle.feed_gen.proofs.Threads.{records_of, all_written, HasNone, EndsLast, IsWhole, whole_text, has_records}
+use Rattle.feed_gen.proofs.Whole.{drafts_good}
+use Rattle.feed_gen.proofs.Threads.{records_of, all_written, EndsLast, whole_text, has_records}
 use Rattle.feed_gen.proofs.Merged.{all_vectors, SoundVectors, merged_sound}
 use Rattle.adg_model.proofs.DeliveryLaws.{records_are_determined}
 use Rattle.feed_gen.specs.Transfers.{ends}
 use Rattle.feed_gen.proofs.Last.{ends_frontier, all_ends}
 use Rattle.feed_gen.proofs.NoFault.{no_fault}
-use Rattle.feed_gen.proofs.Passing.{Passes, made_by}
+use Rattle.feed_gen.proofs.Passing.{Passes}
 use Rattle.feed_gen.proofs.History.{vectors_append, history_passes}
-use Rattle.feed_gen.proofs.Drafts.{all_drafts_good, all_drafts_len, written_good, written_few, all_end, all_count}
+use Rattle.feed_gen.proofs.Drafts.{all_drafts_good, all_drafts_len, written_good, all_end, all_count}
 
 pub whole_feed : IsWholeFeed
 unfolding generated generated_deliveries

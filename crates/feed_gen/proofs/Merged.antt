@@ -1,17 +1,16 @@
 -- The merged log of the three threads: their records one after another, as they were written.
-use Rattle.std.proofs.Common.{◌≡◌, ℕ, zero, suc, ◌+◌, ◌-◌, ◌*◌, ◌<◌, ◌≤◌, Bool, true, false, cond, nat_le, List, [], ◌∷◌, ◌++◌, map, filter, length, Option, Some, None, refl, sym, ap, ap₂, ◌∙◌, subst, arith, append_assoc, append-nil, inl, inr, ◌⊎◌}
+use Rattle.std.proofs.Common.{◌≡◌, ℕ, ◌+◌, ◌<◌, ◌≤◌, Bool, true, false, cond, nat_le, List, [], ◌∷◌, ◌++◌, map, None, refl, sym, ap, ap₂, ◌∙◌, subst, arith, append_assoc, inl, inr, ◌⊎◌}
 use Rattle.std.specs.Prelude.{◌==◌}
 use Rattle.std.specs.List.{AllByRecursion, flat_map}
 use Rattle.std.proofs.lemmas.List.{map-append}
 use Rattle.std.proofs.lemmas.Bool.{eqb-true, leb-false, cases_eq}
 use Rattle.std.proofs.lemmas.Bool.Decides.{nat_tests}
 use Rattle.adg_base.specs.declared.vector.Vector.{Vector}
-use Rattle.adg_base.specs.declared.vector.RedoRecord.{RedoRecord}
 use Rattle.adg_base.specs.declared.log.LogEntry.{LogEntry}
 use Rattle.adg_model.specs.Database.{Database, after, no_database}
 use Rattle.adg_model.specs.Sound.{refusal, SoundFrom, IsSound}
 use Rattle.adg_model.specs.Spelling.{IsVector}
-use Rattle.adg_model.specs.Log.{record_entries, thread_entries, entries_from, comes_before, put_in, in_order, upto, numbered, frontier, merged_log}
+use Rattle.adg_model.specs.Log.{record_entries, thread_entries, comes_before, put_in, in_order, upto, numbered, frontier, merged_log}
 use Rattle.adg_model.proofs.LogLaws.{each_append, each_weaker, Ordered, put_in_first, each_in_order, before_by_scn, IsOf, record_entries_are, record_entries_ordered, upto_in_order, upto_none, ScnsRise, scns_rise_in_order}
 use Rattle.feed_gen.specs.declared.writing.Writing.{Writing}
 use Rattle.feed_gen.proofs.Small.{IsWriting}

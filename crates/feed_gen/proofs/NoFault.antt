@@ -1,8 +1,8 @@
 -- Whole texts and a sound log have no redo fault.
-use Rattle.std.proofs.Common.{◌≡◌, ℕ, zero, suc, ◌+◌, ◌-◌, ◌<◌, ◌≤◌, Bool, true, false, cond, List, [], ◌∷◌, ◌++◌, map, length, Option, Some, None, refl, sym, ap, ap₂, ◌∙◌, subst, arith, append_assoc, append-nil, inl, inr, ◌⊎◌, eq-eqb}
+use Rattle.std.proofs.Common.{◌≡◌, ℕ, suc, ◌+◌, ◌<◌, ◌≤◌, Bool, true, false, cond, List, [], ◌∷◌, ◌++◌, map, length, Some, None, refl, sym, ap, ◌∙◌, subst, arith, append_assoc, append-nil, inl, eq-eqb}
 use Rattle.std.specs.Prelude.{◌==◌}
 use Rattle.std.specs.List.{flat_map}
-use Rattle.std.proofs.lemmas.Bool.{eqb-true, cases_Bool}
+use Rattle.std.proofs.lemmas.Bool.{eqb-true}
 use Rattle.std.proofs.lemmas.List.{length-append}
 use Rattle.std.proofs.lemmas.Grind.{flat_map-append}
 use Rattle.adg_base.specs.declared.vector.RedoRecord.{RedoRecord}
@@ -14,7 +14,7 @@ use Rattle.adg_model.specs.declared.fault.CheckKind.{CheckKind}
 use Rattle.adg_model.specs.declared.fault.RedoKind.{RedoKind}
 use Rattle.adg_model.specs.declared.fault.RedoKind.TheVariants.{Frame, BadVector, Unsound}
 use Rattle.adg_model.specs.declared.fault.RedoFault.{RedoFault}
-use Rattle.adg_model.specs.Records.{Raw, Mark, raw_bytes, first_mark, mark_after, AreRaws, record_fault, FailsFrom, raw_of, bytes_for, thread_text, AreReadable, HasRecords, HasBadRecord}
+use Rattle.adg_model.specs.Records.{Raw, Mark, raw_bytes, first_mark, mark_after, record_fault, FailsFrom, raw_of, bytes_for, thread_text, HasRecords, HasBadRecord}
 use Rattle.adg_model.specs.Log.{merged_log, ReceivedFrom}
 use Rattle.adg_model.specs.Database.{Database, no_database, after, walked, database}
 use Rattle.adg_model.specs.Sound.{refusal, SoundFrom, IsSound, IsFirstUnsound, IsFirstBadRecord, IsFirstUnsoundEntry, IsRedoFault}
@@ -102,7 +102,7 @@ new_fault threads ds f rs h whole = record {
   is_thread = h.is_thread;
   number = refl;
   bad = subst (λ text. HasBadRecord text rs (Frame (kind_behind (last_mark rs)))) (sym (own_text f.thread ds))
-    (record { rest = 0 ∷ 0 ∷ []; spelled = ap (λ t. t ++ 0 ∷ 0 ∷ []) whole.spelled; follow = whole.follow; shown = shown_behind (last_mark rs) }, whole.readable);
+      (record { rest = 0 ∷ 0 ∷ []; spelled = ap (λ t. t ++ 0 ∷ 0 ∷ []) whole.spelled; follow = whole.follow; shown = shown_behind (last_mark rs) }, whole.readable);
 }
 
 is_fault : (threads : ℕ) (ds : List RawDelivery) (t n : ℕ) (kind : RedoKind) → IsFirstBadRecord threads ds (fault_at t n kind) → IsRedoFault threads ds (fault_at t n kind)

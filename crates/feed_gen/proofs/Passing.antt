@@ -1,15 +1,15 @@
 -- What was written passes the checks of a log.
-use Rattle.std.proofs.Common.{◌≡◌, ℕ, zero, suc, ◌+◌, ◌-◌, ◌*◌, ◌/◌, ◌%◌, ◌<◌, ◌≤◌, Bool, true, false, cond, not, List, [], ◌∷◌, ◌++◌, map, length, Option, Some, None, refl, sym, ap, ap₂, ◌∙◌, subst, arith, append_assoc, append-nil, inl, inr, ◌⊎◌, eq-eqb}
-use Rattle.std.specs.Prelude.{◌==◌, ◌&&◌, ◌||◌, nat_lt, ℤ}
+use Rattle.std.proofs.Common.{◌≡◌, ℕ, zero, suc, ◌+◌, ◌*◌, ◌/◌, ◌<◌, ◌≤◌, Bool, true, false, cond, List, [], ◌∷◌, ◌++◌, Some, None, refl, sym, ap, ◌∙◌, subst, arith, inl, inr, eq-eqb}
+use Rattle.std.specs.Prelude.{◌==◌, ◌||◌, ℤ}
 use Rattle.std.specs.List.{AllByRecursion, flat_map, range_with_len}
 use Rattle.std.proofs.Math.Nat.{div-mul-le_self, mul-le-mul_left}
 use Rattle.std.proofs.lemmas.Bool.{cases_eq, lt-ltb, eqb-true}
 use Rattle.adg_base.specs.Address.{Place, place, same_place}
 use Rattle.adg_base.specs.declared.vector.Vector.{Vector}
 use Rattle.adg_base.specs.declared.vector.Vector.TheVariants.{Begin, Put, Delete, Undo, Commit, Abort, Create, DropObject, AddColumn, NoInMemory, EndThread}
-use Rattle.adg_model.specs.Database.{Database, Table, Change, set_at, struck, has_change, after, no_database}
+use Rattle.adg_model.specs.Database.{Database, Table, set_at, has_change, after, no_database}
 use Rattle.adg_model.specs.Sound.{refusal, has_address}
-use Rattle.feed_gen.specs.Tables.{extents_of, block_of, slot_of, kinds, put, undo, create, first_balance, puts}
+use Rattle.feed_gen.specs.Tables.{extents_of, block_of, slot_of, kinds, put, undo, first_balance, puts}
 use Rattle.feed_gen.specs.Bounds.{IsTable, IsRowNumber}
 
 -- vectors that no check refuses, and what they make

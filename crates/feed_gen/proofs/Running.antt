@@ -1,19 +1,19 @@
 -- The transfers pass the checks of a log.
-use Rattle.std.proofs.Common.{◌≡◌, ℕ, zero, suc, ◌+◌, ◌-◌, ◌*◌, ◌/◌, ◌%◌, ◌<◌, ◌≤◌, Bool, true, false, cond, List, [], ◌∷◌, ◌++◌, map, length, Option, Some, None, refl, sym, ap, ap₂, ◌∙◌, subst, arith, append_assoc, append-nil}
-use Rattle.std.specs.Prelude.{◌==◌, ◌||◌, ℤ}
-use Rattle.std.specs.List.{AllByRecursion, flat_map, list_any}
-use Rattle.adg_base.specs.Address.{Place, place, same_place}
+use Rattle.std.proofs.Common.{◌≡◌, ℕ, ◌+◌, ◌<◌, ◌≤◌, Bool, true, false, cond, List, [], ◌∷◌, Option, Some, None, refl, sym, ap, ◌∙◌, arith}
+use Rattle.std.specs.Prelude.{ℤ}
+use Rattle.std.specs.List.{AllByRecursion}
+use Rattle.adg_base.specs.Address.{Place, place}
 use Rattle.adg_base.specs.declared.vector.Vector.{Vector}
-use Rattle.adg_base.specs.declared.vector.Vector.TheVariants.{Begin, Put, Undo, Commit, Abort, EndThread}
+use Rattle.adg_base.specs.declared.vector.Vector.TheVariants.{Begin, Commit, Abort}
 use Rattle.adg_model.specs.Database.{Database, Change, struck, has_change, after}
 use Rattle.adg_model.specs.Sound.{refusal}
 use Rattle.feed_gen.specs.declared.transfer.Transfer.{Transfer}
 use Rattle.feed_gen.specs.declared.second.Second.{Second}
 use Rattle.feed_gen.specs.Tables.{block_of, slot_of, values, put, undo}
 use Rattle.feed_gen.specs.Transfers.{second_of, second_vectors}
-use Rattle.feed_gen.specs.Bounds.{IsTable, IsTransfer, IsSecond}
+use Rattle.feed_gen.specs.Bounds.{IsTransfer, IsSecond}
 use Rattle.feed_gen.proofs.Good.{second_good}
-use Rattle.feed_gen.proofs.Passing.{Passes, made_by, passes_append, made_append, set_same, same_itself, OfTxn, Same, same_by, stands_by, of_append, Stands, table_made, IsBusy, begin_passes, put_passes, undo_passes, commit_passes, abort_passes, put_noted}
+use Rattle.feed_gen.proofs.Passing.{Passes, made_by, set_same, same_itself, OfTxn, Same, same_by, stands_by, Stands, table_made, IsBusy, begin_passes, put_passes, undo_passes, commit_passes, abort_passes, put_noted}
 
 abbrev place_at : ℕ → ℕ → Place
 place_at k row = place k (block_of k row) (slot_of k row)

@@ -1,8 +1,7 @@
 -- The loops over the transfers.
-use Rattle.std.proofs.Common.{◌≡◌, ℕ, zero, suc, ◌+◌, ◌-◌, ◌*◌, ◌<◌, ◌≤◌, List, [], ◌∷◌, ◌++◌, map, min, length, refl, sym, ap, ap₂, ◌∙◌, subst, arith}
+use Rattle.std.proofs.Common.{◌≡◌, ℕ, suc, ◌+◌, ◌-◌, ◌*◌, ◌<◌, ◌≤◌, List, [], ◌∷◌, ◌++◌, map, min, refl, sym, ap, ap₂, ◌∙◌, subst, arith}
 use Rattle.std.specs.Prelude.{ℤ}
 use Rattle.std.specs.List.{range_with_len}
-use Rattle.std.proofs.lemmas.List.{length-append}
 use Rattle.feed_gen.specs.declared.writing.Writing.{Writing}
 use Rattle.feed_gen.specs.declared.transfer.Transfer.{Transfer}
 use Rattle.feed_gen.specs.declared.second.Second.{Second}
@@ -11,7 +10,7 @@ use Rattle.feed_gen.specs.declared.bank.Bank.{Bank}
 use Rattle.feed_gen.specs.Draws.{draws, drawn}
 use Rattle.feed_gen.specs.Tables.{thread_of}
 use Rattle.feed_gen.specs.Transfers.{settled, debited, credited, second_of, first_record, number_of, kept_by, with_kept, left_over, transfer_writings, after_transfer, transfers, after_transfers}
-use Rattle.feed_gen.specs.Generated.{Draft, portion_of, transfer_draft, last_draft, transfer_drafts}
+use Rattle.feed_gen.specs.Generated.{portion_of, transfer_draft, last_draft, transfer_drafts}
 use Rattle.feed_gen.specs.Written.{Written, with_writings, with_draft, with_drafts}
 use Rattle.feed_gen.specs.Bounds.{IsGood}
 use Rattle.feed_gen.proofs.Written.{with_writings_then, with_no_writings}

@@ -1,14 +1,14 @@
 -- Each record that is written can be read, and is short.
-use Rattle.std.proofs.Common.{◌≡◌, ℕ, zero, suc, ◌+◌, ◌-◌, ◌*◌, ◌/◌, ◌%◌, ◌<◌, ◌≤◌, ◌^◌, Bool, true, false, cond, List, [], ◌∷◌, ◌++◌, length, map, Option, Some, None, refl, sym, ap, ◌∙◌, subst, arith}
-use Rattle.std.specs.Prelude.{ℤ, pos, negsuc, FitsSigned, ◌==◌}
+use Rattle.std.proofs.Common.{◌≡◌, ℕ, zero, suc, ◌+◌, ◌*◌, ◌<◌, ◌≤◌, Bool, true, false, cond, List, [], ◌∷◌, ◌++◌, length, map, Option, Some, None, refl, sym, subst, arith}
+use Rattle.std.specs.Prelude.{ℤ, FitsSigned, ◌==◌}
 use Rattle.std.specs.List.{AllByRecursion, flat_map, range_with_len}
-use Rattle.std.specs.Int.{w16, w64, to_be_bytes}
+use Rattle.std.specs.Int.{w64}
 use Rattle.std.proofs.Math.Nat.{div-le_self}
 use Rattle.std.proofs.lemmas.Int.{ints}
 use Rattle.std.proofs.lemmas.List.{length-append}
 use Rattle.std.proofs.lemmas.List.FromFn.{length-map-range_with_len}
 use Rattle.adg_base.specs.declared.vector.Vector.{Vector}
-use Rattle.adg_base.specs.declared.vector.Vector.TheVariants.{Begin, Put, Undo, Commit, Abort, Create, EndThread}
+use Rattle.adg_base.specs.declared.vector.Vector.TheVariants.{Begin, Commit, Abort, Create, EndThread}
 use Rattle.adg_model.specs.Feed.{IsIn}
 use Rattle.adg_model.specs.Spelling.{vector_bytes, vectors_bytes, IsTxn, IsVector, AreVectors}
 use Rattle.adg_model.proofs.LogLaws.{each_append}
@@ -17,11 +17,11 @@ use Rattle.feed_gen.specs.declared.transfer.Transfer.{Transfer}
 use Rattle.feed_gen.specs.declared.second.Second.{Second}
 use Rattle.feed_gen.specs.declared.second.Kept.{Kept}
 use Rattle.feed_gen.specs.declared.bank.Bank.{Bank}
-use Rattle.feed_gen.specs.Tables.{thread_of, writing, extents_of, block_of, slot_of, kinds, label, values, put, undo, create, first_balance, puts, first_load, second_load, load, creates, loads}
+use Rattle.feed_gen.specs.Tables.{thread_of, writing, extents_of, block_of, slot_of, kinds, label, put, undo, create, first_balance, puts, first_load, second_load, load, creates, loads}
 use Rattle.feed_gen.specs.Draws.{drawn}
 use Rattle.feed_gen.specs.Transfers.{number_of, debited, credited, first_record, second_of, second_vectors, kept_by, with_kept, left_over, all_kept, end_of, ends, closing, opened, transfer_writings, after_transfer, transfers, after_transfers}
-use Rattle.feed_gen.specs.Bounds.{IsTable, IsRowNumber, IsWithin, IsTransfer, IsSecond, IsKept, AreKept, IsGood}
-use Rattle.feed_gen.proofs.Labels.{IsLabel, label_good}
+use Rattle.feed_gen.specs.Bounds.{IsTable, IsRowNumber, IsWithin, IsTransfer, IsSecond, IsGood}
+use Rattle.feed_gen.proofs.Labels.{label_good}
 use Rattle.feed_gen.proofs.Good.{drawn_good, second_good, debited_good, credited_good, good_after, made_after, first_within}
 
 -- a vector of a record with so many, and of at most a hundred bytes

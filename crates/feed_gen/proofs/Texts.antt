@@ -1,9 +1,8 @@
 -- The texts of the commands.
-use Rattle.std.proofs.Common.{◌≡◌, ℕ, ◌+◌, ◌<◌, ◌≤◌, List, [], ◌∷◌, ◌++◌, length, refl, sym, ap, ◌∙◌, arith, append_assoc, append-nil}
+use Rattle.std.proofs.Common.{◌≡◌, ℕ, ◌+◌, ◌<◌, ◌≤◌, [], ◌∷◌, ◌++◌, length, ap, arith, append-nil}
 use Rattle.std.specs.Prelude.{codes, decimal}
 use Rattle.std.proofs.lemmas.List.{length-append}
 use Rattle.std.proofs.lemmas.Fmt.{decimal_digit, length-decimal-le}
-use Rattle.adg_base.specs.declared.command.Command.TheVariants as command
 use Rattle.adg_model.specs.Command.{command_bytes}
 use Rattle.feed_gen.specs.declared.question.Question.{Question}
 use Rattle.feed_gen.specs.declared.question.Question.TheVariants.{Populate, Sums, CountsAndSums}

@@ -1,20 +1,14 @@
 -- The records of each thread, in its text.
-use Rattle.std.proofs.Common.{◌≡◌, ℕ, zero, suc, ◌+◌, ◌-◌, ◌*◌, ◌<◌, ◌≤◌, ◌^◌, Bool, true, false, cond, List, [], ◌∷◌, ◌++◌, map, length, Option, Some, None, refl, sym, ap, ap₂, ◌∙◌, subst, arith, append_assoc, append-nil, inl, inr, true≢false}
+use Rattle.std.proofs.Common.{◌≡◌, ℕ, ◌+◌, ◌<◌, ◌≤◌, ◌^◌, Bool, true, false, cond, List, [], ◌∷◌, ◌++◌, map, length, Some, None, refl, sym, ap, ap₂, ◌∙◌, subst, arith, append-nil, inl, true≢false}
 use Rattle.std.specs.Prelude.{◌==◌}
 use Rattle.std.specs.List.{AllByRecursion, flat_map, filter_map}
-use Rattle.std.proofs.lemmas.List.{length-append}
 use Rattle.std.proofs.lemmas.Bool.{eqb-true}
 use Rattle.std.proofs.lemmas.List.Elements.{filter_map-append}
 use Rattle.std.proofs.lemmas.Grind.{flat_map-append}
-use Rattle.adg_base.specs.declared.vector.Vector.{Vector}
 use Rattle.adg_base.specs.declared.vector.RedoRecord.{RedoRecord}
-use Rattle.adg_model.specs.declared.delivery.RedoPiece.{RedoPiece}
-use Rattle.adg_model.specs.declared.delivery.RawDelivery.{RawDelivery}
 use Rattle.adg_model.specs.Feed.{Item, piece_of, delivery_of}
 use Rattle.adg_model.specs.declared.fault.FrameKind.TheVariants.{AfterEnd}
-use Rattle.adg_model.specs.Spelling.{AreVectors, vectors_bytes}
-use Rattle.adg_model.specs.Records.{Raw, Mark, first_mark, mark_of, raw_of, raw_bytes, raw_len, record_bytes, is_end, IsRaw, AreRaws, AreReadable, record_fault, HasRecords, SplitsFrom, bytes_for, thread_text}
-use Rattle.adg_model.proofs.LogLaws.{each_append}
+use Rattle.adg_model.specs.Records.{Mark, first_mark, mark_of, raw_of, raw_bytes, record_bytes, is_end, IsRaw, AreRaws, AreReadable, record_fault, HasRecords, bytes_for, thread_text}
 use Rattle.feed_gen.specs.declared.writing.Writing.{Writing}
 use Rattle.feed_gen.specs.Commands.{Asking}
 use Rattle.feed_gen.specs.Generated.{Draft, redo_items, ask_item, draft_items, drafts_items}

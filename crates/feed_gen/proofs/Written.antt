@@ -1,16 +1,15 @@
 -- A feed that is written part by part.
-use Rattle.std.proofs.Common.{◌≡◌, ℕ, ◌+◌, ◌<◌, ◌^◌, List, [], ◌∷◌, ◌++◌, map, length, refl, sym, ap, ap₂, ◌∙◌, subst, append_assoc, append-nil, arith}
-use Rattle.std.specs.List.{flat_map}
+use Rattle.std.proofs.Common.{◌≡◌, ℕ, ◌+◌, ◌<◌, ◌^◌, List, [], ◌∷◌, ◌++◌, map, length, refl, sym, ap, ap₂, ◌∙◌, append_assoc, append-nil, arith}
 use Rattle.std.proofs.lemmas.List.{length-append, map-append}
 use Rattle.std.proofs.lemmas.Grind.{flat_map-append}
-use Rattle.adg_model.specs.Feed.{Item, item_bytes, items_bytes, end_bytes, stop_bytes, feed_bytes, delivery_bytes, deliveries_bytes}
+use Rattle.adg_model.specs.Feed.{item_bytes, items_bytes, end_bytes, stop_bytes, feed_bytes, delivery_bytes, deliveries_bytes}
 use Rattle.adg_base.specs.declared.vector.RedoRecord.{RedoRecord}
 use Rattle.adg_model.specs.Records.{raw_of, record_bytes, IsRecord}
 use Rattle.adg_model.proofs.RecordsSpelled.{length_raw_bytes}
 use Rattle.feed_gen.specs.declared.writing.Writing.{Writing}
 use Rattle.feed_gen.specs.Commands.{Asking}
 use Rattle.feed_gen.specs.Generated.{threads, sessions, Draft, redo_item, redo_items, ask_item, draft_items, drafts_items}
-use Rattle.feed_gen.specs.Written.{Written, with_bytes, with_writings, with_asked, with_end, with_draft, with_drafts, with_stop, opened_feed}
+use Rattle.feed_gen.specs.Written.{Written, with_writings, with_asked, with_draft, with_drafts, with_stop, opened_feed}
 
 pub redo_items_append : (scn : ℕ) (a b : List Writing) → redo_items scn (a ++ b) ≡ redo_items scn a ++ redo_items (scn + length a) b
 redo_items_append scn [] b = let e : scn ≡ scn + 0 = omega arith in ap (λ n. redo_items n b) e

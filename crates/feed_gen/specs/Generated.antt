@@ -1,8 +1,8 @@
 -- The generated feed: its deliveries, and their bytes.
-use Rattle.std.specs.Prelude.{ℕ, zero, suc, ◌+◌, ◌-◌, ◌*◌, ◌/◌, List, [], ◌∷◌, ◌++◌, map, length, min}
+use Rattle.std.specs.Prelude.{ℕ, ◌+◌, ◌-◌, ◌*◌, List, [], ◌∷◌, ◌++◌, map, length, min}
 use Rattle.std.specs.List.{range_with_len}
 use Rattle.std.specs.Int.{div_ceil}
-use Rattle.adg_model.specs.Feed.{Item, items_bytes, item_bytes, end_bytes, stop_bytes, opening_bytes, feed_bytes}
+use Rattle.adg_model.specs.Feed.{Item, feed_bytes}
 use Rattle.adg_model.specs.Feed.Item.{Redo, Asks}
 use Rattle.adg_model.specs.Records.{record_bytes}
 use Rattle.adg_model.specs.Command.{command_bytes}

@@ -1,6 +1,6 @@
 -- A feed as far as it is written, and what each part adds to it.
 use Rattle.std.specs.Prelude.{ℕ, ◌+◌, List, [], ◌∷◌, ◌++◌, map, length}
-use Rattle.adg_model.specs.Feed.{Item, items_bytes, item_bytes, end_bytes, stop_bytes, opening_bytes, Asks}
+use Rattle.adg_model.specs.Feed.{items_bytes, item_bytes, end_bytes, stop_bytes, opening_bytes, Asks}
 use Rattle.feed_gen.specs.declared.writing.Writing.{Writing}
 use Rattle.feed_gen.specs.Commands.{Asking}
 use Rattle.feed_gen.specs.Generated.{threads, sessions, redo_items, ask_item, Draft}

@@ -1,4 +1,4 @@
-use Rattle.std.proofs.Common.{◌≡◌, ℕ, ◌∙◌, ◌-◌, ◌≤◌, [], ◌∷◌, map, ap, refl, subst, arith}
+use Rattle.std.proofs.Common.{◌≡◌, ℕ, ◌∙◌, ◌-◌, [], ◌∷◌, map, ap, refl, subst, arith}
 use Rattle.std.specs.List.{flat_map, range_with_len}
 use Rattle.std.proofs.lemmas.List.Concat.{flat_map_single}
 use Rattle.adg_base.specs.declared.command.Command.TheVariants as command

@@ -1,4 +1,4 @@
-use Rattle.std.proofs.Common.{◌∙◌, ◌≤◌, length, ap, arith}
+use Rattle.std.proofs.Common.{◌∙◌, length, ap, arith}
 use Rattle.feed_gen.proofs.Texts.{text_few}
 use Rattle.feed_gen.proofs.Loops.{text_asked}
 use Rattle.feed_gen.specs.Commands.{command_of}

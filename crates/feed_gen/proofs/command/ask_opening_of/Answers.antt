@@ -1,4 +1,4 @@
-use Rattle.std.proofs.Common.{◌∙◌, [], ◌∷◌, refl}
+use Rattle.std.proofs.Common.{[], ◌∷◌, refl}
 use Rattle.adg_base.specs.declared.command.Command.TheVariants as command
 use Rattle.feed_gen.specs.declared.question.Question.TheVariants.{Populate}
 use Rattle.feed_gen.specs.Commands.{ask, asks_own, all_tables, opening_asked}

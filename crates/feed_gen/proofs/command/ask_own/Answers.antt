@@ -1,4 +1,4 @@
-use Rattle.std.proofs.Common.{◌≡◌, ◌-◌, ◌≤◌, subst, arith}
+use Rattle.std.proofs.Common.{◌≡◌, ◌-◌, subst, arith}
 use Rattle.std.specs.List.{range_with_len}
 use Rattle.feed_gen.specs.Commands.{asks_own, all_tables}
 use Rattle.feed_gen.specs.Written.{with_asked}

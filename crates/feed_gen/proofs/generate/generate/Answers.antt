@@ -1,6 +1,5 @@
-use Rattle.std.proofs.Common.{◌≡◌, ◌∙◌, ◌+◌, ◌≤◌, ◌++◌, ap, ap₂, sym, subst, length, arith}
+use Rattle.std.proofs.Common.{◌∙◌, ap, ap₂, sym, subst, arith}
 use Rattle.std.proofs.lemmas.List.{length-append}
-use Rattle.feed_gen.specs.declared.bank.Bank.{Bank}
 use Rattle.feed_gen.specs.Tables.{creates, loads}
 use Rattle.feed_gen.specs.Generated.{opening, portions, transfer_drafts, drafts, generated_deliveries, generated}
 use Rattle.feed_gen.specs.Written.{Written, with_draft, with_drafts, with_stop}

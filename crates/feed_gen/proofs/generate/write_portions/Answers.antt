@@ -1,4 +1,4 @@
-use Rattle.std.proofs.Common.{◌≡◌, ◌+◌, ◌*◌, ◌<◌, ◌≤◌, arith}
+use Rattle.std.proofs.Common.{arith}
 use Rattle.std.specs.Int.{div_ceil}
 use Rattle.feed_gen.specs.Generated.{portions, transfer_drafts}
 use Rattle.feed_gen.specs.Written.{with_drafts}

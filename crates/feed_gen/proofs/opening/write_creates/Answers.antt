@@ -1,4 +1,4 @@
-use Rattle.std.proofs.Common.{◌≡◌, ◌∙◌, ◌+◌, ◌-◌, ◌≤◌, [], ◌∷◌, map, ap, subst, arith}
+use Rattle.std.proofs.Common.{◌≡◌, ◌∙◌, ◌-◌, [], ◌∷◌, map, ap, subst, arith}
 use Rattle.std.specs.List.{range_with_len}
 use Rattle.feed_gen.specs.Tables.{create, creates}
 use Rattle.feed_gen.specs.Written.{with_writings}

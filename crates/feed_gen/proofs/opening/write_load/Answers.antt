@@ -1,4 +1,4 @@
-use Rattle.std.proofs.Common.{◌≡◌, ◌∙◌, [], ◌∷◌, ap, ap₂}
+use Rattle.std.proofs.Common.{◌∙◌, [], ◌∷◌, ap₂}
 use Rattle.feed_gen.specs.Written.{with_writings}
 use Rattle.feed_gen.proofs.Loops.{written_then}
 use Rattle.feed_gen.proofs.opening.write_load.Goals as goal

@@ -1,4 +1,4 @@
-use Rattle.std.proofs.Common.{◌≤◌, ◌<◌, arith}
+use Rattle.std.proofs.Common.{arith}
 use Rattle.feed_gen.specs.Tables.{creates, loads}
 use Rattle.feed_gen.proofs.Loops.{records_of, written_then, all_created_len}
 use Rattle.feed_gen.proofs.opening.write_opening.Goals as goal

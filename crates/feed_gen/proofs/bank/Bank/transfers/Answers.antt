@@ -1,5 +1,5 @@
-use Rattle.std.proofs.Common.{◌≡◌, ◌+◌, ◌*◌, ◌<◌, ◌≤◌, arith}
-use Rattle.feed_gen.proofs.Runs.{Runs, runs_first, runs_more, runs_room, runs_end_bank, runs_end_feed}
+use Rattle.std.proofs.Common.{arith}
+use Rattle.feed_gen.proofs.Runs.{runs_first, runs_more, runs_room, runs_end_bank, runs_end_feed}
 use Rattle.feed_gen.proofs.bank.Bank.transfers.Goals as goal
 
 pub loop-number-init : goal.loop-number-init
