@@ -1,13 +1,10 @@
 -- How a population goes on with its units, where nobody disturbs it.
-use Rattle.std.proofs.Common.{◌≡◌, ℕ, ◌+◌, ◌<◌, ◌≤◌, Bool, true, false, cond, ◌&&◌, List, [], Option, Some, None, ◌⊎◌, inl, inr, refl, sym, ap, ◌∙◌, subst, arith, true≢false}
+use Rattle.std.proofs.Common.{◌≡◌, ℕ, ◌+◌, ◌<◌, ◌≤◌, Bool, true, false, cond, List, [], Option, Some, None, ◌⊎◌, inl, inr, refl, sym, ap, ◌∙◌, subst, arith, true≢false}
 use Rattle.std.specs.Prelude.{◌==◌, is_some, is_none}
 use Rattle.std.proofs.lemmas.Bool.{eq-eqb, ne_eqb, ltb-false, and_from, and_right, cases_eq}
 use Rattle.adg_base.specs.declared.placed.PlacedRow.{PlacedRow}
-use Rattle.adg_base.specs.declared.log.LogEntry.{LogEntry}
-use Rattle.adg_model.specs.Database.{table_at}
 use Rattle.core_rules.specs.State.{ColumnUnit, Units, Population}
-use Rattle.core_rules.specs.Populations.{loading, with_unit, awaits, filled, units_installed, installed_then, has_more}
-use Rattle.core_rules.specs.ColumnUse.{IsReadyAt}
+use Rattle.core_rules.specs.Populations.{loading, with_unit, awaits, filled, units_installed, installed_then}
 use Rattle.turn_rules.proofs.Use.{IsOwnUnit, IsBuilding, BuildingGoesOn, BuildingEnds}
 
 -- one unit set
@@ -44,7 +41,7 @@ registers units p b h l = record {
         (loading p, ap (with_unit p.obj p.registered (Some (loading p)) units p.obj) e ∙ unit_here p.obj p.registered (Some (loading p)) units, record { snapshot = refl; ticket = refl; columns = refl })
     waiting extent k m (inr d) =
         own_again (with_unit p.obj p.registered (Some (loading p)) units) p (record p { registered = p.registered + 1 }) extent false refl refl refl
-            (own_elsewhere units p p.registered extent (Some (loading p)) false d (b.waiting extent k (omega (arith, m, d))))
+        (own_elsewhere units p p.registered extent (Some (loading p)) false d (b.waiting extent k (omega (arith, m, d))))
 
 releases : (units : Units) (p : Population) → IsBuilding units p → p.table.extents ≤ p.registered → IsBuilding units (record p { holds = false })
 releases units p b l = record {
@@ -80,10 +77,11 @@ own_now : (units : Units) (p : Population) → IsBuilding units p → (h : HasOw
 own_now units p b h extent l = subst (λ (us : Units). HasOwn us p extent true) (sym (installed_units units p h)) (by_place (cases_eq extent p.extent))
   where
     by_place : (extent ≡ p.extent) ⊎ (extent ≡ p.extent → ⊥) → HasOwn (with_unit p.obj p.extent (Some (record h.0 { columns = Some p.read })) units) p extent true
-    by_place (inl e) =
-        (record h.0 { columns = Some p.read },
-        ap (with_unit p.obj p.extent (Some (record h.0 { columns = Some p.read })) units p.obj) e ∙ unit_here p.obj p.extent (Some (record h.0 { columns = Some p.read })) units,
-        record { snapshot = h.2.snapshot; ticket = h.2.ticket; columns = refl })
+    by_place (inl e) = (
+      record h.0 { columns = Some p.read },
+      ap (with_unit p.obj p.extent (Some (record h.0 { columns = Some p.read })) units p.obj) e ∙ unit_here p.obj p.extent (Some (record h.0 { columns = Some p.read })) units,
+      record { snapshot = h.2.snapshot; ticket = h.2.ticket; columns = refl },
+    )
     by_place (inr d) = own_elsewhere units p p.extent extent (Some (record h.0 { columns = Some p.read })) true d (b.ended extent (omega (arith, l, d)))
 
 own_later : (units : Units) (p : Population) → IsBuilding units p → (h : HasOwn units p p.extent false) → (extent : ℕ) → p.extent + 1 ≤ extent → extent < p.registered → HasOwn (units_installed p units) p extent false
@@ -111,9 +109,11 @@ building_ends log units p b f l m defined =
     let h = at_hand_waits units p b f l in
     let last : p.table.extents ≤ p.extent + 1 = ltb-false (p.extent + 1) p.table.extents m in
     let e : installed_then p units ≡ p.installed + 1 = installed_count units p h in
-    let i : p.installed ≡ p.extent = b.installed in
-    (omega arith, record {
-      table = p.table;
-      defined = defined;
-      each = λ extent k. let o = own_now units p b h extent (omega arith) in (o.0, o.1, record { ready = o.2.columns; snapshot = o.2.snapshot });
-    })
+    let i : p.installed ≡ p.extent = b.installed in (
+      omega arith,
+      record {
+        table = p.table;
+        defined = defined;
+        each = λ extent k. let o = own_now units p b h extent (omega arith) in (o.0, o.1, record { ready = o.2.columns; snapshot = o.2.snapshot });
+      },
+    )

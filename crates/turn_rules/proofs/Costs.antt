@@ -1,24 +1,22 @@
 -- How the parts of the measure change with one worker, one worklink, one session or one seat.
-use Rattle.std.proofs.Common.{◌≡◌, ℕ, zero, suc, ◌+◌, ◌-◌, ◌*◌, ◌<◌, ◌≤◌, Bool, true, false, cond, List, [], ◌∷◌, ◌++◌, length, map, filter, Option, Some, None, ◌⊎◌, inl, inr, refl, sym, ap, ◌∙◌, subst, arith, true≢false, mul-add, mul-le-mul_left}
+use Rattle.std.proofs.Common.{◌≡◌, ℕ, zero, suc, ◌+◌, ◌-◌, ◌*◌, ◌<◌, ◌≤◌, Bool, true, false, cond, List, [], ◌∷◌, ◌++◌, length, map, filter, Option, Some, None, refl, sym, ap, ◌∙◌, arith, mul-add, mul-le-mul_left}
 use Rattle.std.specs.Prelude.{slice_set, nat_lt, nat_le, option_to_list}
 use Rattle.std.specs.List.{flat_map}
-use Rattle.std.proofs.lemmas.Bool.{ltb-true, ltb-false, le-leb, lt-leb, leb-true, leb-false}
-use Rattle.std.proofs.lemmas.List.{length-append, length-map}
+use Rattle.std.proofs.lemmas.Bool.{ltb-true, ltb-false, le-leb, lt-leb}
+use Rattle.std.proofs.lemmas.List.{length-append}
 use Rattle.adg_base.specs.Area.{Held}
 use Rattle.adg_base.specs.declared.log.LogEntry.{LogEntry}
 use Rattle.adg_base.specs.declared.node.Node.{Node}
 use Rattle.adg_base.specs.declared.node.DdlNode.{DdlNode}
 use Rattle.adg_base.specs.declared.node.Item.{Item}
-use Rattle.adg_base.specs.declared.answer.Reply.{Reply}
 use Rattle.adg_model.specs.declared.mined.Mined.{Mined}
 use Rattle.adg_model.specs.declared.mined.Mined.TheVariants as mined
 use Rattle.core_rules.specs.Share.{share}
-use Rattle.core_rules.specs.State.{CoreState, Worker, Quiesce, Idle, Shared, Flushing, Stage, Unclaimed, Claimed, Finished, Link, Population, Session, Free, Populating, Scanning, At, held_once_more, held_once_less}
+use Rattle.core_rules.specs.State.{CoreState, Worker, Quiesce, Idle, Shared, Flushing, Link, Session, At, held_once_more, held_once_less}
 use Rattle.core_rules.specs.Applying.{mined_node, mined_ddl, entered, entered_if}
 use Rattle.core_rules.specs.Flush.{cut_worker, nodes_upto, AreFull, unclaimed}
 use Rattle.turn_rules.specs.Round.{Seat}
-use Rattle.turn_rules.specs.Turns.{with_reply}
-use Rattle.turn_rules.specs.Measure.{link_cost, links_cost, worker_cost, workers_cost, calm_cost, core_cost, most_acts, acts_done, seat_cost, seats_cost}
+use Rattle.turn_rules.specs.Measure.{link_cost, links_cost, worker_cost, workers_cost, calm_cost, core_cost, seat_cost, seats_cost}
 
 -- the cost of a core by its parts, with the number of its workers apart
 abbrev pub cost_at : (n : ℕ) → List Worker → List LogEntry → (frontier : ℕ) → List DdlNode → List Link → (query : ℕ) → Quiesce → ℕ
@@ -41,14 +39,14 @@ workers_set_from n place log frontier (w ∷ ws) zero at was new h e =
     let moved : worker_cost n (length (share n place log)) frontier was ≡ worker_cost n (length (share n at log)) frontier was = ap (λ k. worker_cost n (length (share n k log)) frontier was) p in
     let moved_new : worker_cost n (length (share n place log)) frontier new ≡ worker_cost n (length (share n at log)) frontier new = ap (λ k. worker_cost n (length (share n k log)) frontier new) p in
     sums (worker_cost n (length (share n place log)) frontier w) (worker_cost n (length (share n place log)) frontier new) (worker_cost n (length (share n at log)) frontier was)
-        (worker_cost n (length (share n at log)) frontier new) (workers_cost n (place + 1) log frontier ws) (same ∙ moved) moved_new
+    (worker_cost n (length (share n at log)) frontier new) (workers_cost n (place + 1) log frontier ws) (same ∙ moved) moved_new
   where
     sums : (a b c d x : ℕ) → a ≡ c → b ≡ d → (b + x) + c ≡ (a + x) + d
     sums a b c d x e f = omega arith
 workers_set_from n place log frontier (w ∷ ws) (suc i) at was new h e =
     sums (worker_cost n (length (share n place log)) frontier w) (workers_cost n (place + 1) log frontier (slice_set ws i new)) (worker_cost n (length (share n at log)) frontier was)
-        (workers_cost n (place + 1) log frontier ws) (worker_cost n (length (share n at log)) frontier new)
-        (workers_set_from n (place + 1) log frontier ws i at was new h (omega arith))
+    (workers_cost n (place + 1) log frontier ws) (worker_cost n (length (share n at log)) frontier new)
+    (workers_set_from n (place + 1) log frontier ws i at was new h (omega arith))
   where
     sums : (a b c d x : ℕ) → b + c ≡ d + x → (a + b) + c ≡ (a + d) + x
     sums a b c d x e = omega arith
@@ -124,10 +122,10 @@ workers_cut n place log frontier t (w ∷ ws) =
     let kept : List Node = filter (λ (x : Node). nat_lt t x.scn) w.ends in
     let cut : List Node = filter (λ (x : Node). nat_le x.scn t) w.ends in
     sums (entries - w.applied) ((n + 35) * (entries - w.mined)) (frontier - w.progress) ((n + 34) * length kept) ((n + 34) * length cut) ((n + 34) * length w.ends)
-        (workers_cost n (place + 1) log frontier (map (cut_worker t) ws)) (workers_cost n (place + 1) log frontier ws) ((n + 34) * length (nodes_upto t ws)) ((n + 34) * length (cut ++ nodes_upto t ws))
-        (times_sum (n + 34) (length kept) (length cut) (length w.ends) (cut_lengths (λ (x : Node). x.scn) t w.ends))
-        (workers_cut n (place + 1) log frontier t ws)
-        (times_sum (n + 34) (length cut) (length (nodes_upto t ws)) (length (cut ++ nodes_upto t ws)) (sym (length-append cut (nodes_upto t ws))))
+    (workers_cost n (place + 1) log frontier (map (cut_worker t) ws)) (workers_cost n (place + 1) log frontier ws) ((n + 34) * length (nodes_upto t ws)) ((n + 34) * length (cut ++ nodes_upto t ws))
+    (times_sum (n + 34) (length kept) (length cut) (length w.ends) (cut_lengths (λ (x : Node). x.scn) t w.ends))
+    (workers_cut n (place + 1) log frontier t ws)
+    (times_sum (n + 34) (length cut) (length (nodes_upto t ws)) (length (cut ++ nodes_upto t ws)) (sym (length-append cut (nodes_upto t ws))))
   where
     sums : (a b c kept cut all new old upto both : ℕ) → kept + cut ≡ all → new + upto ≡ old → cut + upto ≡ both → ((a + b + c + kept) + new) + both ≡ (a + b + c + all) + old
     sums a b c kept cut all new old upto both e f g = omega arith

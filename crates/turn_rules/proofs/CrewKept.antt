@@ -1,10 +1,10 @@
 -- What events leave of the log, the frontier, the QuerySCN and born.
-use Rattle.std.proofs.Common.{◌≡◌, ℕ, ◌+◌, ◌<◌, ◌≤◌, Bool, List, Option, refl, sym, ap, ◌∙◌, subst, arith}
+use Rattle.std.proofs.Common.{◌≡◌, ℕ, ◌<◌, ◌≤◌, Bool, Option, refl, ap, ◌∙◌, subst, arith}
 use Rattle.adg_base.specs.declared.answer.Reply.{Reply}
 use Rattle.core_rules.specs.declared.event.Event.{Event}
 use Rattle.core_rules.specs.declared.event.Event.TheVariants as event
 use Rattle.core_rules.specs.declared.event.CoreAnswer.TheVariants.{Moved}
-use Rattle.core_rules.specs.State.{CoreState, Flushing, Session, At, limit, cut_through, holders}
+use Rattle.core_rules.specs.State.{CoreState, Flushing, Session, holders}
 use Rattle.core_rules.specs.Flush.{Publishes}
 use Rattle.core_rules.specs.Parts.{QuiesceIs}
 use Rattle.core_rules.specs.Step.{Happens}

@@ -1,5 +1,5 @@
 -- The number of an object that has a spelling is the only one with its digits.
-use Rattle.std.proofs.Common.{◌≡◌, ℕ, zero, suc, ◌+◌, ◌*◌, ◌/◌, ◌%◌, ◌<◌, ◌≤◌, ◌^◌, List, [], ◌∷◌, length, cond, Bool, true, false, ◌⊎◌, inl, inr, refl, sym, ap, ◌∙◌, subst, arith}
+use Rattle.std.proofs.Common.{◌≡◌, ℕ, zero, suc, ◌+◌, ◌*◌, ◌/◌, ◌%◌, ◌<◌, ◌≤◌, ◌^◌, List, [], ◌∷◌, length, cond, Bool, true, false, ◌⊎◌, inl, inr, ap, ◌∙◌, arith}
 use Rattle.std.specs.Prelude.{◌==◌}
 use Rattle.std.specs.Fmt.{decimal, digits, digits_onto, digit_glyph}
 use Rattle.std.proofs.lemmas.Bool.{cond-false, ne_eqb, eq-eqb, cases_lt}
@@ -27,8 +27,8 @@ longer n h =
     let d = n / 10 / 10 / 10 / 10 in
     let g = digit_glyph false in
     let e : length (digits_onto 64 10 false n []) ≡ length (digits_onto 59 10 false (d / 10) (g (d % 10) ∷ g (c % 10) ∷ g (b % 10) ∷ g (a % 10) ∷ g (n % 10) ∷ [])) =
-        ap length (step 63 n [] (omega arith) ∙ step 62 a (g (n % 10) ∷ []) (omega arith) ∙ step 61 b (g (a % 10) ∷ g (n % 10) ∷ []) (omega arith)
-            ∙ step 60 c (g (b % 10) ∷ g (a % 10) ∷ g (n % 10) ∷ []) (omega arith) ∙ step 59 d (g (c % 10) ∷ g (b % 10) ∷ g (a % 10) ∷ g (n % 10) ∷ []) (omega arith)) in
+    ap length (step 63 n [] (omega arith) ∙ step 62 a (g (n % 10) ∷ []) (omega arith) ∙ step 61 b (g (a % 10) ∷ g (n % 10) ∷ []) (omega arith)
+    ∙ step 60 c (g (b % 10) ∷ g (a % 10) ∷ g (n % 10) ∷ []) (omega arith) ∙ step 59 d (g (c % 10) ∷ g (b % 10) ∷ g (a % 10) ∷ g (n % 10) ∷ []) (omega arith)) in
     let l = last 58 (d / 10) (g (d % 10) ∷ g (c % 10) ∷ g (b % 10) ∷ g (a % 10) ∷ g (n % 10) ∷ []) in
     omega (arith, e, l)
   where

@@ -1,31 +1,29 @@
 -- Every round ends: each turn makes the bound of the turns that are left fall.
-use Rattle.std.proofs.Common.{◌≡◌, ℕ, zero, suc, ◌+◌, ◌-◌, ◌*◌, ◌/◌, ◌%◌, ◌<◌, ◌≤◌, Bool, true, false, cond, List, [], ◌∷◌, ◌++◌, length, map, Option, Some, None, ◌⊎◌, inl, inr, refl, sym, ap, ◌∙◌, subst, arith, true≢false, length-set, mul-add, mul-le-mul_left}
-use Rattle.std.specs.Prelude.{slice_get, slice_set}
+use Rattle.std.proofs.Common.{◌≡◌, ℕ, zero, suc, ◌+◌, ◌-◌, ◌*◌, ◌/◌, ◌%◌, ◌<◌, ◌≤◌, Bool, List, [], ◌∷◌, ◌++◌, length, map, Option, Some, None, ◌⊎◌, inl, inr, refl, sym, ap, ◌∙◌, subst, arith, true≢false, length-set, mul-add, mul-le-mul_left}
+use Rattle.std.specs.Prelude.{slice_get}
 use Rattle.std.specs.List.{AllByRecursion, range_with_len}
 use Rattle.std.proofs.Math.Nat.{div-add-mod, mod-lt, mod-eq_of_lt, mul-add-mod_self_left}
 use Rattle.std.proofs.lemmas.Bool.{cases_lt}
 use Rattle.std.proofs.lemmas.List.{length-map}
 use Rattle.std.proofs.lemmas.List.FromFn.{length-range_with_len}
-use Rattle.adg_base.specs.declared.log.LogEntry.{LogEntry}
 use Rattle.adg_base.specs.declared.answer.Reply.{Reply}
 use Rattle.core_rules.specs.declared.event.Event.{Event}
 use Rattle.core_rules.specs.declared.event.Event.TheVariants as event
 use Rattle.core_rules.specs.declared.event.CoreAnswer.TheVariants.{Moved}
 use Rattle.core_rules.specs.Share.{share}
-use Rattle.core_rules.specs.State.{CoreState, Worker, Session}
-use Rattle.core_rules.specs.Applying.{Applies, Mines, Raises}
+use Rattle.core_rules.specs.State.{CoreState, Session}
 use Rattle.core_rules.specs.Flush.{cut_worker}
 use Rattle.core_rules.specs.Restarts.{rewound}
 use Rattle.core_rules.specs.Step.{Happens}
 use Rattle.core_rules.specs.Runs.{Move}
-use Rattle.core_rules.proofs.Lists.{Has, each_has, has_map, has_range}
-use Rattle.turn_rules.specs.Round.{Request, Seat, Round, actors, is_over}
-use Rattle.turn_rules.specs.Picks.{Act, Rests, Makes, Replies, MakesAndReplies, actor_of, number_by, number_at, actor_at, act_of, act_at}
-use Rattle.turn_rules.specs.Turns.{TakesTurn, Plays, with_reply}
+use Rattle.core_rules.proofs.Lists.{each_has, has_map, has_range}
+use Rattle.turn_rules.specs.Round.{Request, Seat, Round, actors}
+use Rattle.turn_rules.specs.Picks.{Act, Rests, Makes, Replies, MakesAndReplies, actor_of, number_by, number_at, act_of, act_at}
+use Rattle.turn_rules.specs.Turns.{TakesTurn, with_reply}
 use Rattle.turn_rules.specs.Measure.{measure, rests_first, waits, turns_left}
 use Rattle.turn_rules.specs.Standing.{RoundIs}
 use Rattle.turn_rules.specs.Laws.{NobodyWaits, ActsLowerMeasure, TurnsKeepRounds, TurnsComeToAnEnd, RoundsEnd}
-use Rattle.turn_rules.proofs.View.{IsOfCrew, SessionIs, Replied, Aborts, Refused, Populates, Registers, Releases, ReadsOn, EndsExtent, EndsPopulation, BeginsScan, Gathers, EndsScan, SeatsAre, AtSeat}
+use Rattle.turn_rules.proofs.View.{IsOfCrew, SessionIs, Replied, Aborts, Refused, Populates, Registers, Releases, ReadsOn, EndsExtent, EndsPopulation, BeginsScan, Gathers, EndsScan, SeatsAre}
 use Rattle.turn_rules.proofs.Viewed.{MoveIs, CrewMoves, SessionMoves, turns_move, rest_is}
 use Rattle.turn_rules.proofs.Waits.{get_beyond}
 
@@ -139,13 +137,19 @@ turn_of_actor n u number h = by_case (cases_lt number (u % n))
     whole = div-add-mod u n
 
     by_case : (number < u % n) ⊎ (u % n ≤ number) → (i : ℕ) × (i < n) × ((u + i) % n ≡ number)
-    by_case (inr l) = (number - u % n, omega (arith, h, l),
-        let e : u + (number - u % n) ≡ n * (u / n) + number = omega (arith, whole, l) in
-        ap (λ k. k % n) e ∙ mul-add-mod_self_left n (u / n) number ∙ mod-eq_of_lt h)
-    by_case (inl l) = (number + n - u % n, omega (arith, h, l, rest),
-        let one : n * 1 ≡ n = omega arith in
-        let e : u + (number + n - u % n) ≡ n * (u / n) + (n * 1 + number) = omega (arith, whole, rest, l, one) in
-        ap (λ k. k % n) e ∙ mul-add-mod_self_left n (u / n) (n * 1 + number) ∙ mul-add-mod_self_left n 1 number ∙ mod-eq_of_lt h)
+    by_case (inr l) = (
+      number - u % n,
+      omega (arith, h, l),
+      let e : u + (number - u % n) ≡ n * (u / n) + number = omega (arith, whole, l) in
+          ap (λ k. k % n) e ∙ mul-add-mod_self_left n (u / n) number ∙ mod-eq_of_lt h,
+    )
+    by_case (inl l) = (
+      number + n - u % n,
+      omega (arith, h, l, rest),
+      let one : n * 1 ≡ n = omega arith in
+          let e : u + (number + n - u % n) ≡ n * (u / n) + (n * 1 + number) = omega (arith, whole, rest, l, one) in
+          ap (λ k. k % n) e ∙ mul-add-mod_self_left n (u / n) (n * 1 + number) ∙ mul-add-mod_self_left n 1 number ∙ mod-eq_of_lt h,
+    )
 
 -- Behind the bytes, where the next turns of all actors are rests, all actors rest.
 rests_all : (schedule : List ℕ) (r : Round) → length schedule ≤ r.turns → AllByRecursion (λ a. a ≡ Rests) (map (act_at schedule r) (range_with_len r.turns (actors r)))
@@ -154,7 +158,7 @@ rests_all schedule r behind all number h =
     let p = turn_of_actor (actors r) (r.turns - length schedule) number h in
     let turn : ℕ = r.turns + p.0 in
     let rest : act_at schedule r turn ≡ Rests = each_has (λ a. a ≡ Rests) (map (act_at schedule r) (range_with_len r.turns (actors r))) (act_at schedule r turn) all
-        (has_map (act_at schedule r) (range_with_len r.turns (actors r)) turn (has_range (actors r) r.turns p.0 p.1)) in
+    (has_map (act_at schedule r) (range_with_len r.turns (actors r)) turn (has_range (actors r) r.turns p.0 p.1)) in
     let none : slice_get schedule turn ≡ None = get_beyond schedule turn (omega arith) in
     let past : turn - length schedule ≡ r.turns - length schedule + p.0 = omega arith in
     let number_is : number_at schedule (actors r) turn ≡ number = ap (λ o. number_by (actors r) o (turn - length schedule)) none ∙ ap (λ k. k % actors r) past ∙ p.2 in
@@ -193,7 +197,7 @@ waits_fall schedule r behind rest some = by_cases (rest_cases (map (act_at sched
     by_cases (inr h) =
         let was : waits schedule r ≡ 1 + rests_first (map (act_at schedule r) (range_with_len (r.turns + 1) others)) = ap rests_first first in
         let now : waits schedule (record r { turns = r.turns + 1 }) ≡ rests_first (map (act_at schedule r) (range_with_len (r.turns + 1) others)) =
-            ap rests_first last ∙ h (act_at schedule r (r.turns + 1 + others) ∷ []) in
+        ap rests_first last ∙ h (act_at schedule r (r.turns + 1 + others) ∷ []) in
         omega arith
 
 waits_within : (schedule : List ℕ) (r : Round) → waits schedule r ≤ actors r
@@ -236,7 +240,7 @@ turns_come_to_an_end waits_for falls schedule r move next is t = subst (λ k. k 
         let e : measure next ≡ measure r = (falls schedule r move next is t).rests h in
         let stays : (length schedule - (r.turns + 1)) + measure next ≡ (length schedule - r.turns) + measure r = omega arith in
         let w : waits schedule next < waits schedule r = subst (λ (x : Round). waits schedule x < waits schedule r) (sym (rest_is schedule r move next t h).0)
-            (waits_fall schedule r l h (λ all. true≢false (sym (waits_for r is all) ∙ t.goes_on))) in
+        (waits_fall schedule r l h (λ all. true≢false (sym (waits_for r is all) ∙ t.goes_on))) in
         let f : (actors r + 1) * ((length schedule - (r.turns + 1)) + measure next) ≡ (actors r + 1) * ((length schedule - r.turns) + measure r) = ap (λ k. (actors r + 1) * k) stays in
         omega arith
 

@@ -1,10 +1,9 @@
 -- Each act makes the measure fall.
-use Rattle.std.proofs.Common.{◌≡◌, ℕ, zero, suc, ◌+◌, ◌-◌, ◌*◌, ◌<◌, ◌≤◌, Bool, true, false, cond, List, [], ◌∷◌, ◌++◌, length, map, filter, Option, Some, None, ◌⊎◌, inl, inr, refl, sym, ap, ◌∙◌, subst, arith, true≢false, length-set}
-use Rattle.std.specs.Prelude.{slice_get, slice_set, nat_lt, nat_le, option_to_list}
+use Rattle.std.proofs.Common.{◌≡◌, ℕ, ◌+◌, ◌-◌, ◌*◌, ◌<◌, ◌≤◌, Bool, true, false, cond, List, [], ◌∷◌, ◌++◌, length, map, filter, Option, Some, None, ◌⊎◌, inl, inr, refl, sym, ap, ◌∙◌, subst, arith, length-set}
+use Rattle.std.specs.Prelude.{slice_set, nat_lt, nat_le, option_to_list}
 use Rattle.std.specs.List.{flat_map}
 use Rattle.std.proofs.lemmas.List.{length-append, length-map}
 use Rattle.std.proofs.lemmas.List.Sorted.{length_permutation}
-use Rattle.adg_base.specs.declared.log.LogEntry.{LogEntry}
 use Rattle.adg_base.specs.declared.node.Node.{Node}
 use Rattle.adg_base.specs.declared.node.DdlNode.{DdlNode}
 use Rattle.adg_base.specs.declared.node.Item.{Item}
@@ -14,9 +13,9 @@ use Rattle.adg_model.specs.Mined.{mined_of, node_item, ddl_item}
 use Rattle.core_rules.specs.declared.event.Event.{Event}
 use Rattle.core_rules.specs.declared.event.Event.TheVariants as event
 use Rattle.core_rules.specs.declared.event.CoreAnswer.TheVariants.{Moved}
-use Rattle.core_rules.specs.State.{CoreState, Worker, Quiesce, Idle, Shared, Flushing, Collected, Stage, Unclaimed, Claimed, Finished, Link, Population, Scan, Session, Free, Populating, Scanning, At, share_of, limit, cut_through, holders}
+use Rattle.core_rules.specs.State.{CoreState, Worker, Flushing, Stage, Claimed, Finished, Link, Session, Free, Populating, Scanning, At, share_of, limit, cut_through, holders}
 use Rattle.core_rules.specs.Applying.{mined_node, mined_ddl, entered_if}
-use Rattle.core_rules.specs.Flush.{HasLink, BeginsFlush, Claims, Collects, Touches, Finishes, Publishes, cut_worker, nodes_upto, unclaimed, with_stage}
+use Rattle.core_rules.specs.Flush.{BeginsFlush, Claims, Collects, Touches, Finishes, Publishes, cut_worker, nodes_upto, unclaimed}
 use Rattle.core_rules.specs.Applying.{Applies, Mines, Raises}
 use Rattle.core_rules.specs.Populations.{new_population, next_block, installed_then}
 use Rattle.core_rules.specs.Scans.{new_scan, scan_then, scan_reply}
@@ -28,10 +27,10 @@ use Rattle.core_rules.proofs.Whole.{log_has_facts}
 use Rattle.core_rules.proofs.Lists.{at_within, at_set_same}
 use Rattle.turn_rules.specs.Round.{Request, Seat, at_hand, Round}
 use Rattle.turn_rules.specs.Picks.{Rests, act_at}
-use Rattle.turn_rules.specs.Turns.{TakesTurn, with_reply}
+use Rattle.turn_rules.specs.Turns.{with_reply}
 use Rattle.turn_rules.specs.Measure.{link_cost, links_cost, worker_cost, workers_cost, calm_cost, core_cost, most_acts, acts_done, seat_cost, seats_cost, measure}
 use Rattle.turn_rules.specs.Standing.{RoundIs}
-use Rattle.turn_rules.specs.Laws.{MeasureFalls, ActsLowerMeasure}
+use Rattle.turn_rules.specs.Laws.{ActsLowerMeasure}
 use Rattle.turn_rules.proofs.View.{IsOfCrew, SessionIs, Replied, Aborts, Refused, Populates, Registers, Releases, ReadsOn, EndsExtent, EndsPopulation, BeginsScan, Gathers, EndsScan, SeatsAre, AtSeat}
 use Rattle.turn_rules.proofs.Viewed.{MoveIs, CrewMoves, SessionMoves, turns_move, rest_is, turns_are_these}
 use Rattle.turn_rules.proofs.Kept.{crew_sessions}
@@ -74,21 +73,21 @@ apply_falls c worker new r =
     let now : Worker = record r.was { applied = r.was.applied + 1 } in
     let left : r.was.applied < length (share_of c worker) = at_within (share_of c worker) r.was.applied r.entry r.next in
     subst (λ k. k < core_cost c) (sym (cost_then c new _ r.effect (length-set c.workers worker now)))
-        (lower_worker (workers_cost (length c.workers) 0 c.log c.frontier c.workers) (workers_cost (length c.workers) 0 c.log c.frontier (slice_set c.workers worker now))
-            (worker_cost (length c.workers) (length (share_of c worker)) c.frontier r.was) (worker_cost (length c.workers) (length (share_of c worker)) c.frontier now)
-            ((length c.workers + 34) * length c.ddl) (links_cost (length c.workers) c.links) (2 * (c.frontier - c.query)) (calm_cost c.quiesce)
-            (workers_set (length c.workers) c.log c.frontier c.workers worker r.was now r.found)
-            (applied_less (length (share_of c worker)) r.was.applied ((length c.workers + 35) * (length (share_of c worker) - r.was.mined)) (c.frontier - r.was.progress) ((length c.workers + 34) * length r.was.ends) left))
+    (lower_worker (workers_cost (length c.workers) 0 c.log c.frontier c.workers) (workers_cost (length c.workers) 0 c.log c.frontier (slice_set c.workers worker now))
+    (worker_cost (length c.workers) (length (share_of c worker)) c.frontier r.was) (worker_cost (length c.workers) (length (share_of c worker)) c.frontier now)
+    ((length c.workers + 34) * length c.ddl) (links_cost (length c.workers) c.links) (2 * (c.frontier - c.query)) (calm_cost c.quiesce)
+    (workers_set (length c.workers) c.log c.frontier c.workers worker r.was now r.found)
+    (applied_less (length (share_of c worker)) r.was.applied ((length c.workers + 35) * (length (share_of c worker) - r.was.mined)) (c.frontier - r.was.progress) ((length c.workers + 34) * length r.was.ends) left))
 
 raise_falls : (c : CoreState) (worker through : ℕ) (new : CoreState) → Raises c worker through new → core_cost new < core_cost c
 raise_falls c worker through new r =
     let now : Worker = record r.was { progress = through } in
     subst (λ k. k < core_cost c) (sym (cost_then c new _ r.effect (length-set c.workers worker now)))
-        (lower_worker (workers_cost (length c.workers) 0 c.log c.frontier c.workers) (workers_cost (length c.workers) 0 c.log c.frontier (slice_set c.workers worker now))
-            (worker_cost (length c.workers) (length (share_of c worker)) c.frontier r.was) (worker_cost (length c.workers) (length (share_of c worker)) c.frontier now)
-            ((length c.workers + 34) * length c.ddl) (links_cost (length c.workers) c.links) (2 * (c.frontier - c.query)) (calm_cost c.quiesce)
-            (workers_set (length c.workers) c.log c.frontier c.workers worker r.was now r.found)
-            (raised_less (length (share_of c worker) - r.was.applied) ((length c.workers + 35) * (length (share_of c worker) - r.was.mined)) c.frontier r.was.progress through ((length c.workers + 34) * length r.was.ends) r.above r.received))
+    (lower_worker (workers_cost (length c.workers) 0 c.log c.frontier c.workers) (workers_cost (length c.workers) 0 c.log c.frontier (slice_set c.workers worker now))
+    (worker_cost (length c.workers) (length (share_of c worker)) c.frontier r.was) (worker_cost (length c.workers) (length (share_of c worker)) c.frontier now)
+    ((length c.workers + 34) * length c.ddl) (links_cost (length c.workers) c.links) (2 * (c.frontier - c.query)) (calm_cost c.quiesce)
+    (workers_set (length c.workers) c.log c.frontier c.workers worker r.was now r.found)
+    (raised_less (length (share_of c worker) - r.was.applied) ((length c.workers + 35) * (length (share_of c worker) - r.was.mined)) c.frontier r.was.progress through ((length c.workers + 34) * length r.was.ends) r.above r.received))
 
 mine_falls : (c : CoreState) (worker : ℕ) (new : CoreState) → Mines c worker new → core_cost new < core_cost c
 mine_falls c worker new r =
@@ -100,19 +99,19 @@ mine_falls c worker new r =
     let left : r.was.mined < len = at_within (share_of c worker) r.was.mined r.entry r.next in
     let step : (len - (r.was.mined + 1)) + 1 ≡ len - r.was.mined = omega arith in
     let counts : (n + 34) * length node + (n + 34) * length ddl ≤ (n + 34) * length c.ddl + (n + 34) * 1 =
-        times_less (n + 34) (length node) (length ddl) (length c.ddl) 1 (mined_lengths r.entry r.was.area (mined_of c.log r.entry) c.ddl) in
+    times_less (n + 34) (length node) (length ddl) (length c.ddl) 1 (mined_lengths r.entry r.was.area (mined_of c.log r.entry) c.ddl) in
     let counts' : (n + 34) * length node + (n + 34) * length ddl ≤ (n + 34) * length c.ddl + (n + 34) =
-        subst (λ k. (n + 34) * length node + (n + 34) * length ddl ≤ (n + 34) * length c.ddl + k) (times_one (n + 34)) counts in
+    subst (λ k. (n + 34) * length node + (n + 34) * length ddl ≤ (n + 34) * length c.ddl + k) (times_one (n + 34)) counts in
     let mines : (n + 35) * (len - (r.was.mined + 1)) + (n + 35) ≡ (n + 35) * (len - r.was.mined) =
-        ap (λ k. (n + 35) * (len - (r.was.mined + 1)) + k) (sym (times_one (n + 35))) ∙ times_sum (n + 35) (len - (r.was.mined + 1)) 1 (len - r.was.mined) step in
+    ap (λ k. (n + 35) * (len - (r.was.mined + 1)) + k) (sym (times_one (n + 35))) ∙ times_sum (n + 35) (len - (r.was.mined + 1)) 1 (len - r.was.mined) step in
     let ends : (n + 34) * length r.was.ends + (n + 34) * length node ≡ (n + 34) * length (r.was.ends ++ node) =
-        times_sum (n + 34) (length r.was.ends) (length node) (length (r.was.ends ++ node)) (sym (length-append r.was.ends node)) in
+    times_sum (n + 34) (length r.was.ends) (length node) (length (r.was.ends ++ node)) (sym (length-append r.was.ends node)) in
     subst (λ k. k < core_cost c) (sym (cost_then c new _ r.effect (length-set c.workers worker now)))
-        (mined_less (len - r.was.applied) ((n + 35) * (len - r.was.mined)) ((n + 35) * (len - (r.was.mined + 1))) (c.frontier - r.was.progress) n
-            ((n + 34) * length r.was.ends) ((n + 34) * length (r.was.ends ++ node)) ((n + 34) * length node) ((n + 34) * length c.ddl) ((n + 34) * length ddl) (n + 35) (n + 34)
-            mines (omega arith) ends counts'
-            (workers_cost n 0 c.log c.frontier c.workers) (workers_cost n 0 c.log c.frontier (slice_set c.workers worker now)) (links_cost n c.links) (2 * (c.frontier - c.query)) (calm_cost c.quiesce)
-            (workers_set n c.log c.frontier c.workers worker r.was now r.found))
+    (mined_less (len - r.was.applied) ((n + 35) * (len - r.was.mined)) ((n + 35) * (len - (r.was.mined + 1))) (c.frontier - r.was.progress) n
+    ((n + 34) * length r.was.ends) ((n + 34) * length (r.was.ends ++ node)) ((n + 34) * length node) ((n + 34) * length c.ddl) ((n + 34) * length ddl) (n + 35) (n + 34)
+    mines (omega arith) ends counts'
+    (workers_cost n 0 c.log c.frontier c.workers) (workers_cost n 0 c.log c.frontier (slice_set c.workers worker now)) (links_cost n c.links) (2 * (c.frontier - c.query)) (calm_cost c.quiesce)
+    (workers_set n c.log c.frontier c.workers worker r.was now r.found))
 
 begin_flush_falls : (c : CoreState) (through : ℕ) (new : CoreState) → BeginsFlush c through new → core_cost new < core_cost c
 begin_flush_falls c through new r =
@@ -131,13 +130,13 @@ begin_flush_falls c through new r =
     let links : links_cost n (map unclaimed r.parts) ≡ (n + 34) * length r.parts = links_unclaimed n r.parts in
     let calm : calm_cost c.quiesce ≡ 1 = ap calm_cost r.can.idle in
     let less : core_cost new < workers_cost n 0 c.log c.frontier c.workers + (n + 34) * length c.ddl + links_cost n c.links + 2 * (c.frontier - c.query) + 1 =
-        subst (λ k. k < workers_cost n 0 c.log c.frontier c.workers + (n + 34) * length c.ddl + links_cost n c.links + 2 * (c.frontier - c.query) + 1)
-            (sym (cost_then c new _ r.effect (length-map c.workers (cut_worker through))))
-            (begun_less (workers_cost n 0 c.log c.frontier c.workers) (workers_cost n 0 c.log c.frontier (map (cut_worker through) c.workers)) ((n + 34) * length (nodes_upto through c.workers))
-                ((n + 34) * length c.ddl) ((n + 34) * length kept) ((n + 34) * length cut) (links_cost n c.links) (links_cost n (map unclaimed r.parts)) (2 * (c.frontier - c.query))
-                (workers_cut n 0 c.log c.frontier through c.workers)
-                (times_sum (n + 34) (length kept) (length cut) (length c.ddl) (cut_lengths (λ (d : DdlNode). d.scn) through c.ddl))
-                (omega arith)) in
+    subst (λ k. k < workers_cost n 0 c.log c.frontier c.workers + (n + 34) * length c.ddl + links_cost n c.links + 2 * (c.frontier - c.query) + 1)
+    (sym (cost_then c new _ r.effect (length-map c.workers (cut_worker through))))
+    (begun_less (workers_cost n 0 c.log c.frontier c.workers) (workers_cost n 0 c.log c.frontier (map (cut_worker through) c.workers)) ((n + 34) * length (nodes_upto through c.workers))
+    ((n + 34) * length c.ddl) ((n + 34) * length kept) ((n + 34) * length cut) (links_cost n c.links) (links_cost n (map unclaimed r.parts)) (2 * (c.frontier - c.query))
+    (workers_cut n 0 c.log c.frontier through c.workers)
+    (times_sum (n + 34) (length kept) (length cut) (length c.ddl) (cut_lengths (λ (d : DdlNode). d.scn) through c.ddl))
+    (omega arith)) in
     subst (λ k. core_cost new < workers_cost n 0 c.log c.frontier c.workers + (n + 34) * length c.ddl + links_cost n c.links + 2 * (c.frontier - c.query) + k) (sym calm) less
 
 -- a worklink goes on to a stage that costs less
@@ -148,10 +147,10 @@ stage_falls : (c new : CoreState) (workers : List Worker) (number : ℕ) (link :
     → core_cost new < core_cost c
 stage_falls c new workers number link stage l same found less e =
     subst (λ k. k < core_cost c) (sym (e ∙ ap (λ w. w + (length c.workers + 34) * length c.ddl + links_cost (length c.workers) (slice_set c.links number (record link { stage = stage })) + 2 * (c.frontier - c.query) + calm_cost c.quiesce) same))
-        (lower_link (workers_cost (length c.workers) 0 c.log c.frontier c.workers) ((length c.workers + 34) * length c.ddl) (links_cost (length c.workers) c.links)
-            (links_cost (length c.workers) (slice_set c.links number (record link { stage = stage }))) (link_cost (length c.workers) link.stage) (link_cost (length c.workers) stage)
-            (2 * (c.frontier - c.query)) (calm_cost c.quiesce)
-            (links_set (length c.workers) c.links number link (record link { stage = stage }) found) less)
+    (lower_link (workers_cost (length c.workers) 0 c.log c.frontier c.workers) ((length c.workers + 34) * length c.ddl) (links_cost (length c.workers) c.links)
+    (links_cost (length c.workers) (slice_set c.links number (record link { stage = stage }))) (link_cost (length c.workers) link.stage) (link_cost (length c.workers) stage)
+    (2 * (c.frontier - c.query)) (calm_cost c.quiesce)
+    (links_set (length c.workers) c.links number link (record link { stage = stage }) found) less)
 
 claim_falls : (c : CoreState) (actor : ℕ) (new : CoreState) → Claims c actor new → core_cost new < core_cost c
 claim_falls c actor new r = stage_falls c new c.workers r.number r.link (Claimed actor 0 []) refl refl r.first.found
@@ -162,11 +161,11 @@ collect_falls c actor new r =
     let now : Worker = record r.was { area = r.area } in
     let within : r.cursor < length c.workers = at_within c.workers r.cursor r.was r.at in
     stage_falls c new (slice_set c.workers r.cursor now) r.number r.link (Claimed actor (r.cursor + 1) r.more) (length-set c.workers r.cursor now)
-        (same_cost (workers_cost (length c.workers) 0 c.log c.frontier (slice_set c.workers r.cursor now)) (workers_cost (length c.workers) 0 c.log c.frontier c.workers)
-            (worker_cost (length c.workers) (length (share_of c r.cursor)) c.frontier r.was) (workers_set (length c.workers) c.log c.frontier c.workers r.cursor r.was now r.at))
-        r.has.found
-        (subst (λ s. length c.workers + 33 - (r.cursor + 1) < link_cost (length c.workers) s) (sym r.has.stage) (omega arith))
-        (cost_then c new _ r.effect (length-set c.workers r.cursor now))
+    (same_cost (workers_cost (length c.workers) 0 c.log c.frontier (slice_set c.workers r.cursor now)) (workers_cost (length c.workers) 0 c.log c.frontier c.workers)
+    (worker_cost (length c.workers) (length (share_of c r.cursor)) c.frontier r.was) (workers_set (length c.workers) c.log c.frontier c.workers r.cursor r.was now r.at))
+    r.has.found
+    (subst (λ s. length c.workers + 33 - (r.cursor + 1) < link_cost (length c.workers) s) (sym r.has.stage) (omega arith))
+    (cost_then c new _ r.effect (length-set c.workers r.cursor now))
   where
     same_cost : (new old k : ℕ) → new + k ≡ old + k → new ≡ old
     same_cost new old k e = omega arith
@@ -176,13 +175,13 @@ touch_falls c actor new r =
     let at : r.cursor ≡ length c.workers + r.shard = r.at in
     let within : r.shard < 32 = r.is_shard in
     stage_falls c new c.workers r.number r.link (Claimed actor (r.cursor + 1) r.collected) refl refl r.has.found
-        (subst (λ s. length c.workers + 33 - (r.cursor + 1) < link_cost (length c.workers) s) (sym r.has.stage) (omega arith)) (cost_then c new _ r.effect refl)
+    (subst (λ s. length c.workers + 33 - (r.cursor + 1) < link_cost (length c.workers) s) (sym r.has.stage) (omega arith)) (cost_then c new _ r.effect refl)
 
 finish_falls : (c : CoreState) (actor : ℕ) (new : CoreState) → Finishes c actor new → core_cost new < core_cost c
 finish_falls c actor new r =
     let end : r.cursor ≡ length c.workers + 32 = r.end in
     stage_falls c new c.workers r.number r.link Finished refl refl r.has.found
-        (subst (λ s. 0 < link_cost (length c.workers) s) (sym r.has.stage) (omega arith)) (cost_then c new _ r.effect refl)
+    (subst (λ s. 0 < link_cost (length c.workers) s) (sym r.has.stage) (omega arith)) (cost_then c new _ r.effect refl)
 
 publish_falls : (c : CoreState) → Invariant c → (new : CoreState) → Publishes c new → core_cost new < core_cost c
 publish_falls c v new r =
@@ -192,9 +191,9 @@ publish_falls c v new r =
     let upto : limit c ≤ c.frontier = v.numbers.cut in
     let calm : calm_cost c.quiesce ≡ 0 = ap calm_cost r.flushing in
     let less : core_cost new < workers_cost (length c.workers) 0 c.log c.frontier c.workers + (length c.workers + 34) * length c.ddl + links_cost (length c.workers) c.links + 2 * (c.frontier - c.query) + 0 =
-        subst (λ k. k < workers_cost (length c.workers) 0 c.log c.frontier c.workers + (length c.workers + 34) * length c.ddl + links_cost (length c.workers) c.links + 2 * (c.frontier - c.query) + 0)
-            (sym (cost_then c new _ r.effect refl))
-            (published_less (workers_cost (length c.workers) 0 c.log c.frontier c.workers) ((length c.workers + 34) * length c.ddl) (links_cost (length c.workers) c.links) c.frontier c.query r.through above (omega arith)) in
+    subst (λ k. k < workers_cost (length c.workers) 0 c.log c.frontier c.workers + (length c.workers + 34) * length c.ddl + links_cost (length c.workers) c.links + 2 * (c.frontier - c.query) + 0)
+    (sym (cost_then c new _ r.effect refl))
+    (published_less (workers_cost (length c.workers) 0 c.log c.frontier c.workers) ((length c.workers + 34) * length c.ddl) (links_cost (length c.workers) c.links) c.frontier c.query r.through above (omega arith)) in
     subst (λ k. core_cost new < workers_cost (length c.workers) 0 c.log c.frontier c.workers + (length c.workers + 34) * length c.ddl + links_cost (length c.workers) c.links + 2 * (c.frontier - c.query) + k) (sym calm) less
 
 crew_falls : (c : CoreState) → Invariant c → (e : Event) (new : CoreState) → IsOfCrew e → Happens c e Moved new → core_cost new < core_cost c
@@ -313,19 +312,19 @@ session_total r next place seat session request told is a at does = by_case does
     goes_on what t b cost sessions more =
         let less = goes_less r.seats r.core.sessions place seat session what at.seated at.does few more in
         falls_to r next (core_cost r.core) (seats_cost r.seats (slice_set r.core.sessions place what)) a b cost
-            (ap (λ x. seats_cost x next.core.sessions) (seats_none t) ∙ ap (seats_cost r.seats) sessions) (omega arith)
+        (ap (λ x. seats_cost x next.core.sessions) (seats_none t) ∙ ap (seats_cost r.seats) sessions) (omega arith)
 
     becomes_free : (said : Reply) → told ≡ Some said → next.aborted ≡ false → core_cost next.core ≡ core_cost r.core → next.core.sessions ≡ slice_set r.core.sessions place Free → measure next < measure r
     becomes_free said t b cost sessions =
         let less = frees_less r.seats r.core.sessions place seat session said request at.seated at.does at.asks few in
         falls_to r next (core_cost r.core) (seats_cost (slice_set r.seats place (with_reply said seat)) (slice_set r.core.sessions place Free)) a b cost
-            (ap (λ x. seats_cost x next.core.sessions) (seats_said said t) ∙ ap (seats_cost (slice_set r.seats place (with_reply said seat))) sessions) (omega arith)
+        (ap (λ x. seats_cost x next.core.sessions) (seats_said said t) ∙ ap (seats_cost (slice_set r.seats place (with_reply said seat))) sessions) (omega arith)
 
     stays : (said : Reply) → told ≡ Some said → next.aborted ≡ false → next.core ≡ r.core → measure next < measure r
     stays said t b same =
         let less = stays_less r.seats r.core.sessions place seat session said request at.seated at.does at.asks few in
         falls_to r next (core_cost r.core) (seats_cost (slice_set r.seats place (with_reply said seat)) r.core.sessions) a b (ap core_cost same)
-            (ap (λ x. seats_cost x next.core.sessions) (seats_said said t) ∙ ap (λ (x : CoreState). seats_cost (slice_set r.seats place (with_reply said seat)) x.sessions) same) (omega arith)
+        (ap (λ x. seats_cost x next.core.sessions) (seats_said said t) ∙ ap (λ (x : CoreState). seats_cost (slice_set r.seats place (with_reply said seat)) x.sessions) same) (omega arith)
 
     sessions_of : (x : CoreState) → next.core ≡ x → next.core.sessions ≡ x.sessions
     sessions_of x e = ap (λ (y : CoreState). y.sessions) e
@@ -340,8 +339,8 @@ session_total r next place seat session request told is a at does = by_case does
     by_case (Populates obj free asks t b begins) =
         let none : acts_done session ≡ 0 = ap acts_done free in
         goes_on (Populating (new_population obj r.core.query begins.ticket begins.table)) t b
-            (cost_then r.core next.core _ begins.effect refl ∙ ap (λ k. workers_cost (length r.core.workers) 0 r.core.log r.core.frontier r.core.workers + (length r.core.workers + 34) * length r.core.ddl + links_cost (length r.core.workers) r.core.links + 2 * (r.core.frontier - r.core.query) + k) (calm_more r.core.quiesce))
-            (sessions_of _ begins.effect) (omega arith)
+        (cost_then r.core next.core _ begins.effect refl ∙ ap (λ k. workers_cost (length r.core.workers) 0 r.core.log r.core.frontier r.core.workers + (length r.core.workers + 34) * length r.core.ddl + links_cost (length r.core.workers) r.core.links + 2 * (r.core.frontier - r.core.query) + k) (calm_more r.core.quiesce))
+        (sessions_of _ begins.effect) (omega arith)
     by_case (Registers p is_p asks t b holds left effect) =
         let was : acts_done session ≡ acts_done (Populating p) = ap acts_done is_p in
         goes_on (Populating (record p { registered = p.registered + 1 })) t b (cost_then r.core next.core _ effect refl) (sessions_of _ effect) (omega arith)
@@ -349,8 +348,8 @@ session_total r next place seat session request told is a at does = by_case does
         let was : acts_done session ≡ 1 + p.registered + cond p.holds 0 1 + 17 * p.extent + p.blocks = ap acts_done is_p in
         let none : cond {A = ℕ} p.holds 0 1 ≡ 0 = ap (λ x. cond {A = ℕ} x 0 1) holds in
         goes_on (Populating (record p { holds = false })) t b
-            (cost_then r.core next.core _ effect refl ∙ ap (λ k. workers_cost (length r.core.workers) 0 r.core.log r.core.frontier r.core.workers + (length r.core.workers + 34) * length r.core.ddl + links_cost (length r.core.workers) r.core.links + 2 * (r.core.frontier - r.core.query) + k) (calm_less r.core.quiesce))
-            (sessions_of _ effect) (omega arith)
+        (cost_then r.core next.core _ effect refl ∙ ap (λ k. workers_cost (length r.core.workers) 0 r.core.log r.core.frontier r.core.workers + (length r.core.workers + 34) * length r.core.ddl + links_cost (length r.core.workers) r.core.links + 2 * (r.core.frontier - r.core.query) + k) (calm_less r.core.quiesce))
+        (sessions_of _ effect) (omega arith)
     by_case (ReadsOn p is_p asks t b released left effect) =
         let was : acts_done session ≡ acts_done (Populating p) = ap acts_done is_p in
         goes_on (Populating (record p { blocks = p.blocks + 1; read = p.read ++ next_block r.core p })) t b (cost_then r.core next.core _ effect refl) (sessions_of _ effect) (omega arith)

@@ -1,7 +1,7 @@
 -- What a scan gathers of an extent from units and from blocks.
-use Rattle.std.proofs.Common.{◌≡◌, ℕ, zero, suc, ◌+◌, ◌-◌, ◌*◌, ◌<◌, ◌≤◌, Bool, true, false, cond, not, ◌&&◌, List, [], ◌∷◌, ◌++◌, map, filter, length, Option, Some, None, ◌⊎◌, inl, inr, refl, sym, ap, ◌∙◌, subst, arith, true≢false}
+use Rattle.std.proofs.Common.{◌≡◌, ℕ, ◌+◌, ◌*◌, ◌<◌, ◌≤◌, Bool, true, false, cond, not, ◌&&◌, List, [], ◌∷◌, ◌++◌, filter, length, Option, Some, None, ◌⊎◌, inl, inr, refl, sym, ap, ◌∙◌, subst, arith, true≢false}
 use Rattle.std.specs.Prelude.{nat_lt, nat_le, is_some}
-use Rattle.std.specs.List.{Contains, filter_map, flat_map, list_any, range_with_len, cons_option}
+use Rattle.std.specs.List.{Contains, filter_map, flat_map, range_with_len, cons_option}
 use Rattle.std.proofs.lemmas.Bool.{eqb-true, eq-eqb, ltb-true, lt-ltb, leb-true, le-leb, and_from, and_parts}
 use Rattle.std.proofs.lemmas.List.{length-append}
 use Rattle.std.proofs.lemmas.List.Elements.{filter-append}
@@ -14,17 +14,17 @@ use Rattle.adg_base.specs.declared.log.LogEntry.{LogEntry}
 use Rattle.adg_base.specs.declared.placed.PlacedRow.{PlacedRow}
 use Rattle.adg_model.specs.Database.{Rows, Table, rows_at, table_at, touched}
 use Rattle.adg_model.specs.Query.{object_places}
-use Rattle.core_rules.specs.Share.{CommitsAt, NotRedefined}
+use Rattle.core_rules.specs.Share.{NotRedefined}
 use Rattle.core_rules.specs.Extents.{IsInExtent}
-use Rattle.core_rules.specs.State.{CoreState, ColumnUnit, Scan, Scanning, At, limit}
-use Rattle.core_rules.specs.Scans.{Look, look_if, look_at, row_in, from_columns, from_blocks, count_from_columns, count_from_blocks, next_look, next_places}
+use Rattle.core_rules.specs.State.{CoreState, ColumnUnit, Scan, limit}
+use Rattle.core_rules.specs.Scans.{look_if, look_at, count_from_columns, count_from_blocks, next_look, next_places}
 use Rattle.core_rules.specs.LogFacts.{LogFacts}
 use Rattle.core_rules.specs.Parts.{is_within}
 use Rattle.core_rules.specs.UnitParts.{IsCovered, CoarseWithin, TouchedWithin, ScanIs}
 use Rattle.core_rules.specs.Invariant.{Invariant, Precise}
 use Rattle.core_rules.specs.ColumnUse.{commit_touches, is_touched, row_places, touched_rows, HasReadyUnits, HasNoUnits}
 use Rattle.core_rules.proofs.Whole.{log_has_facts}
-use Rattle.core_rules.proofs.Lists.{Has, has, contains, has_flat_map_back, has_map_back, has_range_back, any_contains, any_contains_back, at_contains, is_true}
+use Rattle.core_rules.proofs.Lists.{Has, has_flat_map_back, has_map_back, has_range_back, any_contains, any_contains_back, is_true}
 use Rattle.core_rules.proofs.Populated.{range_append}
 use Rattle.turn_rules.proofs.Use.{GathersTouched, ScansGather}
 
@@ -158,9 +158,9 @@ commit_touched log low high high' a l w =
     let above : low < w.scn = w.above in
     let upto : w.scn ≤ high = w.upto in
     any_contains (λ (x : LogEntry). is_within low high' x.scn && commit_touches log a x.vector) log w.commits.entry w.commits.within
-        (and_from (is_within low high' w.commits.entry.scn) (commit_touches log a w.commits.entry.vector)
-            (and_from (nat_lt low w.commits.entry.scn) (nat_le w.commits.entry.scn high') (lt-ltb low w.commits.entry.scn (omega arith)) (le-leb w.commits.entry.scn high' (omega arith)))
-            (subst (λ v. commit_touches log a v ≡ true) (sym w.commits.commits) (any_contains (same_place a) (touched w.txn log) a w.touches (place_is_itself a))))
+    (and_from (is_within low high' w.commits.entry.scn) (commit_touches log a w.commits.entry.vector)
+    (and_from (nat_lt low w.commits.entry.scn) (nat_le w.commits.entry.scn high') (lt-ltb low w.commits.entry.scn (omega arith)) (le-leb w.commits.entry.scn high' (omega arith)))
+    (subst (λ v. commit_touches log a v ≡ true) (sym w.commits.commits) (any_contains (same_place a) (touched w.txn log) a w.touches (place_is_itself a))))
 
 -- Of a scan and its next extent.
 module _ (c : CoreState) (s : Scan) (v : Invariant c) (p : Precise c) (is : ScanIs c.log c.query s) (left : s.extents < s.table.extents) where
@@ -193,7 +193,7 @@ module _ (c : CoreState) (s : Scan) (v : Invariant c) (p : Precise c) (is : Scan
               let at : s.scn ≤ c.query = is.scn in
               let unit = v.units s.select.obj s.extents u e in
               let now : table_at c.log s.scn s.select.obj ≡ Some unit.built.table =
-                  facts.same_table s.select.obj u.snapshot s.scn unit.built.table low unit.built.defined (λ x i r a b. unit.stands.same x i r a (omega arith)) in
+              facts.same_table s.select.obj u.snapshot s.scn unit.built.table low unit.built.defined (λ x i r a b. unit.stands.same x i r a (omega arith)) in
               let both : Some unit.built.table ≡ Some s.table = sym now ∙ is.defined in
               let same : unit.built.table ≡ s.table = cc in
               absurd (true≢false (sym unit.built.in_memory ∙ ap (λ (x : Table). x.flag) same ∙ flag))
@@ -270,7 +270,7 @@ module _ (c : CoreState) (s : Scan) (v : Invariant c) (p : Precise c) (is : Scan
           let above : since < w.scn = w.above in
           let upto : w.scn ≤ s.scn = w.upto in
           by_cover a w.txn h w.touches ((v.units s.select.obj s.extents (ready.each s.extents within).0 found).covered w.txn w.scn w.commits (omega (arith, above, snapshot)) (inl (omega (arith, upto, at)))
-              (λ x i r b d. same x i r (omega (arith, b, snapshot)) (omega (arith, d, upto, at, published, cut))))
+          (λ x i r b d. same x i r (omega (arith, b, snapshot)) (omega (arith, d, upto, at, published, cut))))
         where
           by_cover : (a : Place) (t : ℕ) → Has (next_places s) a → Contains (touched t c.log) a → IsCovered c.log t s.select.obj s.extents (ready.each s.extents within).0 → (ready.each s.extents within).0.marked a ≡ true
           by_cover a t h m (inl whole) = absurd (true≢false (sym whole ∙ partly))

@@ -1,23 +1,21 @@
 -- What the tests of the rule find, and that the events which it picks for the coordinator and the workers can happen.
-use Rattle.std.proofs.Common.{◌≡◌, ℕ, zero, suc, ◌+◌, ◌-◌, ◌<◌, ◌≤◌, min, Bool, true, false, cond, ◌&&◌, List, [], ◌∷◌, length, map, drop, Option, Some, None, ◌⊎◌, inl, inr, refl, sym, ap, ◌∙◌, subst, arith, true≢false}
-use Rattle.std.specs.Prelude.{slice_get, nat_lt, nat_le, ◌==◌}
-use Rattle.std.specs.List.{Contains, AllByRecursion, list_all, list_any}
-use Rattle.std.proofs.lemmas.Bool.{ltb-true, ltb-false, leb-true, leb-false, eqb-true, eq-eqb, and_parts, cond_both, cases_lt, cases_eq}
+use Rattle.std.proofs.Common.{◌≡◌, ℕ, zero, suc, ◌+◌, ◌-◌, ◌<◌, ◌≤◌, Bool, true, false, cond, ◌&&◌, List, [], ◌∷◌, length, map, drop, Option, Some, None, ◌⊎◌, inl, inr, refl, sym, ap, ◌∙◌, subst, arith, true≢false}
+use Rattle.std.specs.Prelude.{slice_get, nat_lt, ◌==◌}
+use Rattle.std.specs.List.{AllByRecursion, list_all, list_any}
+use Rattle.std.proofs.lemmas.Bool.{ltb-true, ltb-false, eqb-true, eq-eqb, and_parts, cond_both, cases_lt}
 use Rattle.adg_base.specs.declared.log.LogEntry.{LogEntry}
 use Rattle.adg_model.specs.Log.{least}
-use Rattle.core_rules.specs.declared.event.Event.{Event}
 use Rattle.core_rules.specs.declared.event.Event.TheVariants as event
-use Rattle.core_rules.specs.State.{CoreState, Worker, Quiesce, Idle, Shared, Flushing, Collected, Stage, Unclaimed, Claimed, Finished, Link, At, share_of, is_flushing, is_unclaimed, is_finished, is_held_by}
-use Rattle.core_rules.specs.Share.{is_shared_by, share}
+use Rattle.core_rules.specs.State.{CoreState, Worker, Quiesce, Idle, Shared, Flushing, Collected, Stage, Unclaimed, Claimed, Finished, Link, At, share_of, is_flushing, is_finished, is_held_by}
+use Rattle.core_rules.specs.Share.{is_shared_by}
 use Rattle.adg_base.specs.Shard.{shard_of_vector}
 use Rattle.core_rules.specs.Flush.{HasLink}
-use Rattle.core_rules.specs.LogFacts.{LogFacts, LogHasFacts}
+use Rattle.core_rules.specs.LogFacts.{LogFacts}
 use Rattle.core_rules.specs.Applying.{CanRaise}
-use Rattle.core_rules.specs.Parts.{stages_of}
 use Rattle.core_rules.specs.Step.{Guard}
 use Rattle.core_rules.specs.Invariant.{Invariant}
 use Rattle.core_rules.proofs.Whole.{log_has_facts}
-use Rattle.core_rules.proofs.Lists.{at_map, at_same, at_within, contains_at, at_contains, Has, has_map, each_from_has, each_from, any_none, any_false, at_has, filter_order, is_true}
+use Rattle.core_rules.proofs.Lists.{at_map, at_same, at_within, contains_at, at_contains, Has, has_map, each_from_has, each_from, any_false, filter_order}
 use Rattle.core_rules.proofs.Shares.{share_log}
 use Rattle.turn_rules.specs.Picks.{Act, Rests, Makes, Replies, MakesAndReplies, cursor_in, or_next, cursor_of, link_event, link_act, has_unclaimed, are_finished, is_idle, least_progress, flushing_act, calm_act, coordinator_act, below_entry, mined_through, share_act, worker_act}
 use Rattle.turn_rules.proofs.View.{IsOfCrew}
@@ -174,17 +172,20 @@ CrewDoes c (MakesAndReplies e said) = ⊥
 link_does : (c : CoreState) → Invariant c → (actor k : ℕ) → cursor_of actor c.links ≡ Some k → CrewDoes c (Makes (link_event (length c.workers) actor k))
 link_does c v actor k h =
     cond_both (nat_lt k (length c.workers)) (event.Collect actor) (cond (nat_lt k (length c.workers + 32)) (event.Touch actor) (event.Done actor)) (λ e. IsOfCrew e × Guard c e)
-        (λ u. (tt, record { number = f.number; link = f.link; cursor = k; collected = f.collected; has = has; area = ltb-true k (length c.workers) u }))
-        (λ u. cond_both (nat_lt k (length c.workers + 32)) (event.Touch actor) (event.Done actor) (λ e. IsOfCrew e × Guard c e)
-            (λ w. (tt, record { number = f.number; link = f.link; cursor = k; collected = f.collected; has = has; from = ltb-false k (length c.workers) u; below = ltb-true k (length c.workers + 32) w }))
-            (λ w. (tt, record {
-              number = f.number;
-              link = f.link;
-              cursor = k;
-              collected = f.collected;
-              has = has;
-              end = let far : length c.workers + 32 ≤ k = ltb-false k (length c.workers + 32) w in let near : k ≤ length c.workers + 32 = bounds.1 in omega arith;
-            })))
+    (λ u. (tt, record { number = f.number; link = f.link; cursor = k; collected = f.collected; has = has; area = ltb-true k (length c.workers) u }))
+    (λ u. cond_both (nat_lt k (length c.workers + 32)) (event.Touch actor) (event.Done actor) (λ e. IsOfCrew e × Guard c e)
+    (λ w. (tt, record { number = f.number; link = f.link; cursor = k; collected = f.collected; has = has; from = ltb-false k (length c.workers) u; below = ltb-true k (length c.workers + 32) w }))
+    (λ w. (
+      tt,
+      record {
+        number = f.number;
+        link = f.link;
+        cursor = k;
+        collected = f.collected;
+        has = has;
+        end = let far : length c.workers + 32 ≤ k = ltb-false k (length c.workers + 32) w in let near : k ≤ length c.workers + 32 = bounds.1 in omega arith;
+      },
+    )))
   where
     f : HasCursor actor c.links k
     f = cursor_found actor c.links k h
@@ -205,13 +206,13 @@ coordinator_does c v = by_cursor (cursor_of 0 c.links) refl
     flushing u e = cond_both (has_unclaimed c.links) (Makes (event.Claim 0)) (cond (are_finished c.links) (Makes event.Publish) Rests) (CrewDoes c)
         (λ w. claim_does c 0 (omega arith) u e w)
         (λ w. cond_both (are_finished c.links) (Makes event.Publish) Rests (CrewDoes c)
-            (λ f. let t = flush_is c.quiesce u in (tt, record { through = t.0; flushing = t.1; done = all_each (λ (l : Link). is_finished l.stage) c.links f }))
-            (λ f. tt))
+        (λ f. let t = flush_is c.quiesce u in (tt, record { through = t.0; flushing = t.1; done = all_each (λ (l : Link). is_finished l.stage) c.links f }))
+        (λ f. tt))
 
     calm : CrewDoes c (calm_act c)
     calm = cond_both (is_idle c.quiesce && nat_lt c.query (least_progress c)) (Makes (event.BeginFlush (least_progress c))) Rests (CrewDoes c)
         (λ u. let p = and_parts (is_idle c.quiesce) (nat_lt c.query (least_progress c)) u in
-            (tt, record { idle = idle_is c.quiesce p.0; above = ltb-true c.query (least_progress c) p.1; reached = least_reached c.workers }))
+        (tt, record { idle = idle_is c.quiesce p.0; above = ltb-true c.query (least_progress c) p.1; reached = least_reached c.workers }))
         (λ u. tt)
 
     by_cursor : (o : Option ℕ) → cursor_of 0 c.links ≡ o → CrewDoes c (link_act (length c.workers) 0 o (cond (is_flushing c.quiesce) (flushing_act c.links) (calm_act c)))
@@ -225,18 +226,18 @@ worker_does c v worker known = by_cursor (cursor_of (worker + 1) c.links) refl
     own None e = tt
     own (Some w) e =
         cond_both (nat_lt w.progress (mined_through c worker w)) (Makes (event.Raise worker (mined_through c worker w)))
-            (cond (nat_lt w.mined w.applied) (Makes (event.Mine worker)) (cond (nat_lt w.applied (length (share_of c worker))) (Makes (event.Apply worker)) Rests)) (CrewDoes c)
-            (λ u. (tt, can_raise c v worker w e (ltb-true w.progress (mined_through c worker w) u)))
-            (λ u. cond_both (nat_lt w.mined w.applied) (Makes (event.Mine worker)) (cond (nat_lt w.applied (length (share_of c worker))) (Makes (event.Apply worker)) Rests) (CrewDoes c)
-                (λ m. (tt, record { was = w; found = e; behind = ltb-true w.mined w.applied m }))
-                (λ m. cond_both (nat_lt w.applied (length (share_of c worker))) (Makes (event.Apply worker)) Rests (CrewDoes c)
-                    (λ a. (tt, record { was = w; found = e; left = ltb-true w.applied (length (share_of c worker)) a }))
-                    (λ a. tt)))
+        (cond (nat_lt w.mined w.applied) (Makes (event.Mine worker)) (cond (nat_lt w.applied (length (share_of c worker))) (Makes (event.Apply worker)) Rests)) (CrewDoes c)
+        (λ u. (tt, can_raise c v worker w e (ltb-true w.progress (mined_through c worker w) u)))
+        (λ u. cond_both (nat_lt w.mined w.applied) (Makes (event.Mine worker)) (cond (nat_lt w.applied (length (share_of c worker))) (Makes (event.Apply worker)) Rests) (CrewDoes c)
+        (λ m. (tt, record { was = w; found = e; behind = ltb-true w.mined w.applied m }))
+        (λ m. cond_both (nat_lt w.applied (length (share_of c worker))) (Makes (event.Apply worker)) Rests (CrewDoes c)
+        (λ a. (tt, record { was = w; found = e; left = ltb-true w.applied (length (share_of c worker)) a }))
+        (λ a. tt)))
 
     by_cursor : (o : Option ℕ) → cursor_of (worker + 1) c.links ≡ o
         → CrewDoes c (link_act (length c.workers) (worker + 1) o (cond (is_flushing c.quiesce && has_unclaimed c.links) (Makes (event.Claim (worker + 1))) (share_act c worker (slice_get c.workers worker))))
     by_cursor (Some k) e = link_does c v (worker + 1) k e
     by_cursor None e =
         cond_both (is_flushing c.quiesce && has_unclaimed c.links) (Makes (event.Claim (worker + 1))) (share_act c worker (slice_get c.workers worker)) (CrewDoes c)
-            (λ u. let p = and_parts (is_flushing c.quiesce) (has_unclaimed c.links) u in claim_does c (worker + 1) (omega arith) p.0 e p.1)
-            (λ u. own (slice_get c.workers worker) refl)
+        (λ u. let p = and_parts (is_flushing c.quiesce) (has_unclaimed c.links) u in claim_does c (worker + 1) (omega arith) p.0 e p.1)
+        (λ u. own (slice_get c.workers worker) refl)

@@ -1,15 +1,13 @@
 -- All that a delivery promises, joined.
-use Rattle.std.proofs.Common.{◌≡◌, ℕ, ◌+◌, ◌<◌, ◌≤◌, List, ◌∷◌, ◌++◌, length, Option, refl, sym, ap, ◌∙◌, subst}
+use Rattle.std.proofs.Common.{◌≡◌, ◌++◌, length, refl, sym, ap, ◌∙◌, subst}
 use Rattle.std.specs.List.{AllByRecursion}
 use Rattle.adg_base.specs.declared.answer.Lines.{Lines}
-use Rattle.adg_model.specs.declared.delivery.CheckedDelivery.{CheckedDelivery}
 use Rattle.core_rules.specs.State.{CoreState, Session, Free}
-use Rattle.core_rules.specs.Runs.{Move, Leads}
+use Rattle.core_rules.specs.Runs.{Leads}
 use Rattle.core_rules.specs.Invariant.{Invariant, Precise}
-use Rattle.turn_rules.specs.Round.{Round, opening_round}
+use Rattle.turn_rules.specs.Round.{opening_round}
 use Rattle.turn_rules.specs.Turns.{moves_of}
 use Rattle.turn_rules.specs.Standing.{RoundIs}
-use Rattle.turn_rules.specs.Delivery.{Delivers, IsReady, Promises}
 use Rattle.turn_rules.specs.Laws.{IsRun, RoundsBegin, TurnsKeepRounds, RoundsAreRuns, LinesAreLegal, UseIsMet, UnitsAreStated, DeliveriesKeepPromises}
 use Rattle.turn_rules.proofs.View.{TurnsAreThese}
 use Rattle.turn_rules.proofs.Over.{over_is, all_free, plays_keep}

@@ -1,7 +1,6 @@
 -- What holds of a round holds as it begins and after each turn; the turns of a round are a run of the core.
-use Rattle.std.proofs.Common.{◌≡◌, ℕ, zero, suc, ◌+◌, ◌-◌, ◌<◌, ◌≤◌, Bool, true, false, cond, List, [], ◌∷◌, ◌++◌, length, Option, Some, None, ◌⊎◌, inl, inr, refl, sym, ap, ◌∙◌, subst, arith, true≢false, length-set}
+use Rattle.std.proofs.Common.{◌≡◌, ℕ, ◌+◌, ◌<◌, Bool, true, false, cond, List, [], ◌∷◌, ◌++◌, length, Option, Some, None, ◌⊎◌, inl, inr, refl, sym, ap, ◌∙◌, subst, arith, true≢false, length-set}
 use Rattle.std.specs.Prelude.{slice_get, slice_set, nat_lt, ◌==◌}
-use Rattle.std.specs.List.{AllByRecursion, filter_map}
 use Rattle.std.proofs.lemmas.Bool.{ltb-true, ltb-false, cond_both}
 use Rattle.std.proofs.lemmas.List.{length-replicate}
 use Rattle.adg_base.specs.declared.command.Command.TheVariants as command
@@ -21,8 +20,8 @@ use Rattle.core_rules.specs.Invariant.{Invariant, Precise}
 use Rattle.core_rules.proofs.Whole.{steps_keep_invariant, steps_keep_precision, receiving_keeps_invariant, receiving_keeps_precision, guards_are_exact}
 use Rattle.core_rules.proofs.Lists.{at_same, at_exists, at_within, at_set_same, at_set_cases, at_replicate, each_at}
 use Rattle.turn_rules.specs.Round.{Request, Asks, Garbles, Seat, at_hand, Round, actors}
-use Rattle.turn_rules.specs.Picks.{Act, Rests, Makes, Replies, MakesAndReplies, Actor, Coordinator, WorkerAt, SessionAt, actor_of, actor_at, number_at, population_event, populate_act, scan_event, select_act, request_act, session_act, coordinator_act, worker_act, act_of}
-use Rattle.turn_rules.specs.Turns.{Acts, TakesTurn, Plays, moves_of, with_reply}
+use Rattle.turn_rules.specs.Picks.{Act, Rests, Makes, Replies, MakesAndReplies, actor_of, actor_at, number_at, population_event, populate_act, select_act, request_act, session_act, coordinator_act, worker_act, act_of}
+use Rattle.turn_rules.specs.Turns.{Acts, TakesTurn, moves_of, with_reply}
 use Rattle.turn_rules.specs.Standing.{IsFor, RoundIs}
 use Rattle.turn_rules.specs.Delivery.{IsTaken}
 use Rattle.turn_rules.specs.Laws.{PickedEventsAreReady, RoundsBegin, TurnsKeepRounds, IsRun, RoundsAreRuns}
@@ -74,9 +73,9 @@ session_fine c place (Scanning s) request at i =
     let e : Some request ≡ Some (Asks (command.Select s.select)) = i in
     let f : request ≡ Asks (command.Select s.select) = cc in
     subst (λ q. IsFine c (request_act c place (Some q))) (sym f) (subst (λ o. IsFine c (select_act (place + 1) s.select o)) (sym at)
-        (cond_both (nat_lt s.extents s.table.extents) (event.ScanExtent (place + 1)) (event.ScanEnd (place + 1)) (Guard c)
-            (λ w. record { place = place; scan = s; is = here c place (Scanning s) at; left = ltb-true s.extents s.table.extents w })
-            (λ w. record { place = place; scan = s; is = here c place (Scanning s) at; whole = ltb-false s.extents s.table.extents w })))
+    (cond_both (nat_lt s.extents s.table.extents) (event.ScanExtent (place + 1)) (event.ScanEnd (place + 1)) (Guard c)
+    (λ w. record { place = place; scan = s; is = here c place (Scanning s) at; left = ltb-true s.extents s.table.extents w })
+    (λ w. record { place = place; scan = s; is = here c place (Scanning s) at; whole = ltb-false s.extents s.table.extents w })))
 
 pub act_fine : (r : Round) → RoundIs r → (number : ℕ) → IsFine r.core (act_of r (actor_of (length r.core.workers) number))
 act_fine r is number = by_actor (actor_is (length r.core.workers) number)
@@ -191,8 +190,8 @@ session_stands r next place seat session request told is at does = by_case does
     becomes_free said t a f = unbroken r next is (slice_set r.seats place (with_reply said seat)) (slice_set r.core.sessions place Free) (subst (λ o. SeatsAre place seat o r.seats next.seats) t at.seats) f a
         (length-set r.seats place (with_reply said seat) ∙ is.seated ∙ sym (length-set r.core.sessions place Free))
         (busy_free r.seats (slice_set r.core.sessions place Free) place (with_reply said seat)
-            (busy_on r.seats r.core.sessions place seat Free is.busy at.seated tt)
-            (at_set_same r.core.sessions place Free (at_within r.core.sessions place session at.does)))
+        (busy_on r.seats r.core.sessions place seat Free is.busy at.seated tt)
+        (at_set_same r.core.sessions place Free (at_within r.core.sessions place session at.does)))
 
     ap_sessions : (x : CoreState) → next.core ≡ x → next.core.sessions ≡ x.sessions
     ap_sessions x e = ap (λ (y : CoreState). y.sessions) e

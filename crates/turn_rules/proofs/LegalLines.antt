@@ -1,10 +1,9 @@
 -- The lines of a round that is over are legal.
 use Rattle.std.proofs.Common.{◌≡◌, ℕ, zero, suc, ◌+◌, ◌-◌, ◌<◌, ◌≤◌, Bool, true, false, cond, List, [], ◌∷◌, ◌++◌, length, replicate, Option, Some, None, ◌⊎◌, inl, inr, refl, sym, ap, ◌∙◌, subst, arith, true≢false}
-use Rattle.std.specs.Prelude.{slice_get, ◌==◌}
+use Rattle.std.specs.Prelude.{◌==◌}
 use Rattle.std.specs.List.{Contains, AllByRecursion, AllZip, filter_map, list_any, count_by}
 use Rattle.std.proofs.lemmas.Bool.{eq-eqb, eqb-true, cases_lt, cases_eq}
 use Rattle.std.proofs.lemmas.Slice.Eq.{bytes_eq-Decides}
-use Rattle.adg_base.specs.declared.log.LogEntry.{LogEntry}
 use Rattle.adg_base.specs.declared.command.CommandText.{CommandText}
 use Rattle.adg_base.specs.declared.command.Command.TheVariants as command
 use Rattle.adg_base.specs.declared.answer.Reply.{Reply}
@@ -17,11 +16,10 @@ use Rattle.adg_model.specs.Transcript.{Answers, all_asked, text_of, texts_of, re
 use Rattle.core_rules.specs.State.{CoreState, Session, Free, At}
 use Rattle.core_rules.specs.Runs.{Move}
 use Rattle.core_rules.specs.Applying.{Receives}
-use Rattle.core_rules.specs.Invariant.{Invariant}
-use Rattle.core_rules.proofs.Lists.{at_same, at_within, at_exists, each_at, each_append, Has, has, at_has, any_contains_back, has_filter_map, has_filter_map_back, each_contains, any_contains, contains, is_true, has_at}
-use Rattle.core_rules.proofs.Once.{count_append, count_cons, count_none}
-use Rattle.turn_rules.specs.Round.{Request, Asks, Reads, Seat, is_through, Round, is_over, AreSeats, opening_round}
-use Rattle.turn_rules.specs.Turns.{TakesTurn, Plays}
+use Rattle.core_rules.proofs.Lists.{at_same, at_within, at_exists, each_at, Has, has, at_has, any_contains_back, has_filter_map, has_filter_map_back, each_contains, any_contains, contains, is_true, has_at}
+use Rattle.core_rules.proofs.Once.{count_append, count_cons}
+use Rattle.turn_rules.specs.Round.{Reads, Seat, is_through, Round, AreSeats, opening_round}
+use Rattle.turn_rules.specs.Turns.{Plays}
 use Rattle.turn_rules.specs.Telling.{all_replies, seats_lines, lines_of}
 use Rattle.turn_rules.specs.Standing.{RoundIs}
 use Rattle.turn_rules.specs.Delivery.{Delivers, IsOfSession, IsReady}
@@ -29,7 +27,7 @@ use Rattle.turn_rules.specs.Laws.{RoundsBegin, TurnsKeepRounds, LinesAreLegal}
 use Rattle.turn_rules.proofs.View.{TurnIs, Rested, Crewed, Seated, TurnsAreThese}
 use Rattle.turn_rules.proofs.CrewKept.{crew_keeps, session_keeps}
 use Rattle.turn_rules.proofs.Ended.{as_many}
-use Rattle.turn_rules.proofs.LinesOf.{replies_to_seat, replies_to_none, all_answered, HasReply, seats_count, count_lines}
+use Rattle.turn_rules.proofs.LinesOf.{replies_to_seat, replies_to_none, all_answered, seats_count, count_lines}
 use Rattle.turn_rules.proofs.SeatsSo.{stands_at, AreMeant, SeatIs, NoneAborted, meant_within, meant_zip, meant_at, meant_up, zip_length, downs_scns, sync_downs, abort_answered, stays_open, stays_aborted}
 use Rattle.turn_rules.proofs.SeatTurns.{OneAborted, AbortsAre, LegalIs, query_within, turn_legal}
 use Rattle.turn_rules.proofs.Over.{IsOver, ByAbort, ByEnd, over_is, through_length, over_free, plays_keep, plays_stand}
@@ -174,7 +172,7 @@ module _ (floor sessions : ℕ) (commands : List CommandText) (r : Round) (k : I
               let same : seat ≡ a.seat = at_same r.seats place seat a.seat h (subst (λ m. At r.seats m a.seat) (sym e) a.found) in
               let last : seat.replies ≡ a.earlier ++ Aborted a.scn ∷ [] = ap (λ (x : Seat). x.replies) same ∙ a.last in
               subst (λ xs. DownStays (xs ++ replicate (length seat.requests - length seat.replies) Down)) (sym last)
-                  (stays_aborted a.earlier a.scn (length seat.requests - length seat.replies) a.none (subst (AllByRecursion (λ x. is_down x ≡ false)) last (up place seat h)))
+              (stays_aborted a.earlier a.scn (length seat.requests - length seat.replies) a.none (subst (AllByRecursion (λ x. is_down x ≡ false)) last (up place seat h)))
 
   -- an ABORT among the commands was answered
   abort_told : list_any is_abort commands ≡ true → r.aborted ≡ true
@@ -298,9 +296,9 @@ last_of these keep begin c d turns new lines ready x = record {
     kept : LegalIs c.query d.commands x.last.core x.last.seats x.last.aborted × (length x.last.seats ≡ length c.sessions)
     kept = plays_keep (λ r. LegalIs c.query d.commands r.core r.seats r.aborted × (length r.seats ≡ length c.sessions)) d.schedule keep
         (λ r move next is is' t h.
-            let these_are = these d.schedule r move next is t in
-            let many = as_many d.schedule r move next is t in
-            (turn_legal c.query d.commands r next is is' these_are.0 these_are.1 h.0, many.seats ∙ h.1))
+        let these_are = these d.schedule r move next is t in
+        let many = as_many d.schedule r move next is t in
+        (turn_legal c.query d.commands r next is is' these_are.0 these_are.1 h.0, many.seats ∙ h.1))
         (opening_round x.received x.seats) turns x.last begins x.plays (opening_legal c d x.received x.seats ready x.receives x.read, x.read.count)
 
 frontier_is : TurnsAreThese → TurnsKeepRounds → (schedule : List ℕ) (r : Round) (turns : List (Option Move)) (last : Round) → RoundIs r → Plays schedule r turns last
@@ -330,5 +328,5 @@ lines_are_legal these keep begin c d turns new lines ready x =
     let last = last_of these keep begin c d turns new lines ready x in
     let is = legal c.query (length c.sessions) d.commands x.last last in
     subst (λ (l : Lines). IsLegal (length c.sessions) new.log c.query d.frontier d.commands l) (sym x.says)
-        (subst (λ (y : CoreState). IsLegal (length c.sessions) y.log c.query d.frontier d.commands (lines_of x.last)) (sym x.core)
-            (subst (λ f. IsLegal (length c.sessions) x.last.core.log c.query f d.commands (lines_of x.last)) (received_is these keep begin c d turns new lines ready x).0 is))
+    (subst (λ (y : CoreState). IsLegal (length c.sessions) y.log c.query d.frontier d.commands (lines_of x.last)) (sym x.core)
+    (subst (λ f. IsLegal (length c.sessions) x.last.core.log c.query f d.commands (lines_of x.last)) (received_is these keep begin c d turns new lines ready x).0 is))

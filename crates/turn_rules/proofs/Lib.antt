@@ -24,3 +24,4 @@ pub mod UseEnd
 pub mod Joined
 pub mod ToldOn
 pub mod Whole
+pub mod Driving

@@ -1,7 +1,6 @@
 -- What the lines of a round tell each session.
-use Rattle.std.proofs.Common.{◌≡◌, ℕ, zero, suc, ◌+◌, ◌-◌, ◌<◌, ◌≤◌, Bool, true, false, cond, List, [], ◌∷◌, ◌++◌, length, replicate, Option, Some, None, ◌⊎◌, inl, inr, refl, sym, ap, ◌∙◌, subst, arith, true≢false}
-use Rattle.std.specs.Prelude.{slice_get, ◌==◌}
-use Rattle.std.specs.List.{AllZip, filter_map, flat_map, range_with_len, count_by}
+use Rattle.std.proofs.Common.{◌≡◌, ℕ, zero, suc, ◌+◌, ◌<◌, ◌≤◌, Bool, cond, List, [], ◌∷◌, ◌++◌, length, Some, None, ◌⊎◌, inl, inr, refl, sym, ap, ◌∙◌, subst, arith}
+use Rattle.std.specs.List.{AllZip, flat_map, range_with_len, count_by}
 use Rattle.std.proofs.lemmas.Bool.{eq-eqb, ne_eqb}
 use Rattle.std.proofs.lemmas.List.Elements.{filter_map-append}
 use Rattle.adg_base.specs.declared.log.LogEntry.{LogEntry}
@@ -10,7 +9,7 @@ use Rattle.adg_base.specs.declared.answer.Reply.{Reply}
 use Rattle.adg_base.specs.declared.answer.Reply.TheVariants.{Down}
 use Rattle.adg_base.specs.declared.answer.Line.{Line}
 use Rattle.adg_model.specs.Reply.{IsReply}
-use Rattle.adg_model.specs.Transcript.{Asked, texts_of, asked_from, all_asked, reply_in, replies_to, replies_that, Answers}
+use Rattle.adg_model.specs.Transcript.{texts_of, asked_from, all_asked, reply_in, replies_to, replies_that, Answers}
 use Rattle.core_rules.specs.State.{At}
 use Rattle.core_rules.proofs.Once.{count_append, count_cons}
 use Rattle.turn_rules.specs.Round.{Seat}
@@ -93,10 +92,10 @@ answers_from log f commands [] from h = tt
 answers_from log f commands (s ∷ ss) from h =
     let here : from + 0 ≡ from = omega arith in
     zip_append (Answers log f) (asked_from from 1 (texts_of from commands)) (flat_map (λ s. asked_from s 1 (texts_of s commands)) (range_with_len (from + 1) (length ss)))
-        (session_lines from 1 (all_replies s)) (seats_lines (from + 1) ss)
-        (session_answers log f from 1 (texts_of from commands) (all_replies s) (subst (λ n. AllZip (HasReply log f) (texts_of n commands) (all_replies s)) here (h 0 s refl)))
-        (answers_from log f commands ss (from + 1) (λ place seat k. let e : from + suc place ≡ from + 1 + place = omega arith in
-            subst (λ n. AllZip (HasReply log f) (texts_of n commands) (all_replies seat)) e (h (suc place) seat k)))
+    (session_lines from 1 (all_replies s)) (seats_lines (from + 1) ss)
+    (session_answers log f from 1 (texts_of from commands) (all_replies s) (subst (λ n. AllZip (HasReply log f) (texts_of n commands) (all_replies s)) here (h 0 s refl)))
+    (answers_from log f commands ss (from + 1) (λ place seat k. let e : from + suc place ≡ from + 1 + place = omega arith in
+    subst (λ n. AllZip (HasReply log f) (texts_of n commands) (all_replies seat)) e (h (suc place) seat k)))
 
 pub all_answered : (log : List LogEntry) (f : ℕ) (commands : List CommandText) (seats : List Seat) (sessions : ℕ) → length seats ≡ sessions
     → ((place : ℕ) (seat : Seat) → At seats place seat → AllZip (HasReply log f) (texts_of (place + 1) commands) (all_replies seat))

@@ -1,11 +1,10 @@
 -- A round that is over: no session does anything; and every turn of a round keeps what each turn keeps.
-use Rattle.std.proofs.Common.{◌≡◌, ℕ, zero, suc, ◌+◌, ◌<◌, ◌≤◌, Bool, true, false, ◌&&◌, ◌||◌, List, [], ◌∷◌, length, Option, Some, None, ◌⊎◌, inl, inr, refl, sym, ap, ◌∙◌, subst, arith, true≢false}
-use Rattle.std.specs.Prelude.{slice_get, ◌==◌}
+use Rattle.std.proofs.Common.{◌≡◌, ℕ, ◌<◌, ◌≤◌, Bool, true, false, ◌&&◌, ◌||◌, List, [], ◌∷◌, length, Option, Some, None, refl, sym, ◌∙◌, subst, arith}
+use Rattle.std.specs.Prelude.{◌==◌}
 use Rattle.std.specs.List.{AllByRecursion, list_all}
-use Rattle.std.proofs.lemmas.Bool.{leb-true, eqb-true, or_cases, and_parts}
-use Rattle.adg_model.specs.declared.delivery.CheckedDelivery.{CheckedDelivery}
+use Rattle.std.proofs.lemmas.Bool.{leb-true, eqb-true, and_parts}
 use Rattle.core_rules.specs.Runs.{Move}
-use Rattle.core_rules.specs.State.{CoreState, Session, Free, Populating, Scanning, At}
+use Rattle.core_rules.specs.State.{Session, Free, Populating, Scanning, At}
 use Rattle.core_rules.proofs.Lists.{at_within, at_exists, at_has, each_at, each_from_has}
 use Rattle.turn_rules.specs.Round.{Request, Seat, at_hand, is_through, Round, is_over}
 use Rattle.turn_rules.specs.Turns.{TakesTurn, Plays}

@@ -1,10 +1,8 @@
 -- Each turn keeps what is carried of the seats.
-use Rattle.std.proofs.Common.{◌≡◌, ℕ, zero, suc, ◌+◌, ◌<◌, ◌≤◌, Bool, true, false, cond, List, [], ◌∷◌, ◌++◌, length, Option, Some, None, ◌⊎◌, inl, inr, refl, sym, ap, ◌∙◌, subst, arith, true≢false}
-use Rattle.std.specs.Prelude.{slice_get, slice_set}
-use Rattle.std.specs.List.{AllByRecursion}
+use Rattle.std.proofs.Common.{◌≡◌, ℕ, ◌+◌, ◌<◌, ◌≤◌, Bool, true, false, cond, List, [], ◌∷◌, ◌++◌, length, Option, Some, None, ◌⊎◌, inl, inr, refl, sym, ap, ◌∙◌, subst, arith}
+use Rattle.std.specs.Prelude.{slice_set}
 use Rattle.std.proofs.lemmas.Bool.{cases_eq}
 use Rattle.std.proofs.lemmas.List.{length-replicate}
-use Rattle.adg_base.specs.declared.log.LogEntry.{LogEntry}
 use Rattle.adg_base.specs.declared.command.CommandText.{CommandText}
 use Rattle.adg_base.specs.declared.command.Command.TheVariants as command
 use Rattle.adg_base.specs.declared.command.Select.{Select}
@@ -14,7 +12,6 @@ use Rattle.adg_model.specs.Database.{Table, table_at}
 use Rattle.adg_model.specs.Query.{has_columns, has_types}
 use Rattle.adg_model.specs.Reply.{IsReply}
 use Rattle.adg_model.specs.Transcript.{texts_of, is_aborted}
-use Rattle.core_rules.specs.declared.event.CoreAnswer.TheVariants.{Moved}
 use Rattle.core_rules.specs.State.{CoreState, Session, Free, Populating, Scanning, At, limit}
 use Rattle.core_rules.specs.Populations.{new_population, next_block, installed_then}
 use Rattle.core_rules.specs.Scans.{new_scan, scan_then, scan_reply, scan_refusal}
@@ -23,7 +20,7 @@ use Rattle.core_rules.specs.Restarts.{restarted}
 use Rattle.core_rules.specs.Invariant.{Invariant}
 use Rattle.core_rules.proofs.Whole.{replies_have_meaning}
 use Rattle.core_rules.proofs.Lists.{at_same, at_within, at_exists, at_set_same, at_set_cases, at_replicate, each_append}
-use Rattle.turn_rules.specs.Round.{Request, Asks, Garbles, Reads, Seat, at_hand, Round}
+use Rattle.turn_rules.specs.Round.{Request, Asks, Garbles, Reads, Seat, Round}
 use Rattle.turn_rules.specs.Turns.{with_reply}
 use Rattle.turn_rules.specs.Standing.{RoundIs}
 use Rattle.turn_rules.proofs.View.{RepliesAlone, Refuses, Speaks, SessionIs, Replied, Aborts, Refused, Populates, Registers, Releases, ReadsOn, EndsExtent, EndsPopulation, BeginsScan, Gathers, EndsScan, SeatsAre, AtSeat, TurnIs, Rested, Crewed, Seated}
@@ -85,7 +82,7 @@ crew_legal floor commands c new seats v s l f q is = record {
       let within : stands_at new.query session ≤ new.query = stand_within new v place session k in
       let most : new.query ≤ new.frontier = query_within new v in
       seat_on new.log new.frontier floor (stands_at c.query session) (stands_at new.query session) (texts_of (place + 1) commands) seat (stand_on c.query new.query session q) (omega arith)
-          (moved c new floor (stands_at c.query session) (texts_of (place + 1) commands) seat l f (is.each place seat session h k'));
+      (moved c new floor (stands_at c.query session) (texts_of (place + 1) commands) seat l f (is.each place seat session h k'));
   aborts = is.aborts;
 }
 
@@ -159,7 +156,6 @@ same_sessions place old new what at e n x h = by_place (cases_eq n place)
 
 module _ (floor : ℕ) (commands : List CommandText) (r next : Round) (place : ℕ) (seat : Seat) (session : Session) (request : Request) (told : Option Reply)
     (v : Invariant r.core) (v' : Invariant next.core) (at : AtSeat r next place seat session request told) (is : LegalIs floor commands r.core r.seats false) (keeps : SessionKeeps r.core next.core) where
-
   -- the seat as it was
   own : SeatIs r.core.log r.core.frontier floor (stands_at r.core.query session) (texts_of (place + 1) commands) seat
   own = is.each place seat session at.seated at.does
@@ -175,7 +171,7 @@ module _ (floor : ℕ) (commands : List CommandText) (r next : Round) (place : �
       let most : next.core.query ≤ next.core.frontier = query_within next.core v' in
       let same : stands_at next.core.query x ≡ stands_at r.core.query x = ap (λ q. stands_at q x) keeps.query in
       seat_on next.core.log next.core.frontier floor stand (stands_at next.core.query x) (texts_of (n + 1) commands) s (omega arith) (omega arith)
-          (moved r.core next.core floor stand (texts_of (n + 1) commands) s keeps.log keeps.frontier k)
+      (moved r.core next.core floor stand (texts_of (n + 1) commands) s keeps.log keeps.frontier k)
 
   floor_on : floor ≤ next.core.query
   floor_on = let old : floor ≤ r.core.query = is.low in let e : next.core.query ≡ r.core.query = keeps.query in omega arith
@@ -222,8 +218,8 @@ module _ (floor : ℕ) (commands : List CommandText) (r next : Round) (place : �
       by_place n s x (inl h) k (inl p) =
           let stand : stands_at r.core.query x ≡ stands_at r.core.query what = ap (stands_at r.core.query) p.1 in
           over_new n x s (stands_at r.core.query session) (omega arith) k
-              (subst (λ (z : Seat). SeatIs r.core.log r.core.frontier floor (stands_at r.core.query session) (texts_of (n + 1) commands) z) (sym h.1)
-                  (subst (λ m. SeatIs r.core.log r.core.frontier floor (stands_at r.core.query session) (texts_of (m + 1) commands) (with_reply said seat)) (sym h.0) more))
+          (subst (λ (z : Seat). SeatIs r.core.log r.core.frontier floor (stands_at r.core.query session) (texts_of (n + 1) commands) z) (sym h.1)
+          (subst (λ m. SeatIs r.core.log r.core.frontier floor (stands_at r.core.query session) (texts_of (m + 1) commands) (with_reply said seat)) (sym h.0) more))
 
       none_yet : (n : ℕ) (s : Seat) → ((n ≡ place) × (s ≡ with_reply said seat)) ⊎ ((n ≡ place → ⊥) × At r.seats n s) → NoneAborted s.replies
       none_yet n s (inr h) = is.aborts n s h.1
@@ -278,8 +274,8 @@ module _ (floor : ℕ) (commands : List CommandText) (r next : Round) (place : �
       by_place n s x (inl h) k f =
           let high : stands_at r.core.query x ≡ r.core.query = ap (stands_at r.core.query) f in
           over_new n x s (stands_at r.core.query session) (omega (arith, stand_is, high)) k
-              (subst (λ (z : Seat). SeatIs r.core.log r.core.frontier floor (stands_at r.core.query session) (texts_of (n + 1) commands) z) (sym h.1)
-                  (subst (λ m. SeatIs r.core.log r.core.frontier floor (stands_at r.core.query session) (texts_of (m + 1) commands) (with_reply (reply.Aborted r.core.query) seat)) (sym h.0) more))
+          (subst (λ (z : Seat). SeatIs r.core.log r.core.frontier floor (stands_at r.core.query session) (texts_of (n + 1) commands) z) (sym h.1)
+          (subst (λ m. SeatIs r.core.log r.core.frontier floor (stands_at r.core.query session) (texts_of (m + 1) commands) (with_reply (reply.Aborted r.core.query) seat)) (sym h.0) more))
 
       others : (n : ℕ) (s : Seat) → (n ≡ place → ⊥) → ((n ≡ place) × (s ≡ with_reply (reply.Aborted r.core.query) seat)) ⊎ ((n ≡ place → ⊥) × At r.seats n s) → NoneAborted s.replies
       others n s d (inl h) = absurd (d h.0)
@@ -289,11 +285,11 @@ module _ (floor : ℕ) (commands : List CommandText) (r next : Round) (place : �
   session_legal (Replied said free alone t b same) =
       let stand : stands_at r.core.query session ≡ r.core.query = ap (stands_at r.core.query) free in
       tells Free said t b (omega arith) (same_sessions place r.core.sessions next.core.sessions Free (subst (At r.core.sessions place) free at.does) (ap (λ (y : CoreState). y.sessions) same))
-          (subst (λ n. IsSaid r.core n text_at_hand.0 said) (sym stand) (said_alone r.core text_at_hand.0 request said text_at_hand.2 alone))
+      (subst (λ n. IsSaid r.core n text_at_hand.0 said) (sym stand) (said_alone r.core text_at_hand.0 request said text_at_hand.2 alone))
   session_legal (Refused said free refuses speaks t b same) =
       let stand : stands_at r.core.query session ≡ r.core.query = ap (stands_at r.core.query) free in
       tells Free said t b (omega arith) (same_sessions place r.core.sessions next.core.sessions Free (subst (At r.core.sessions place) free at.does) (ap (λ (y : CoreState). y.sessions) same))
-          (subst (λ n. IsSaid r.core n text_at_hand.0 said) (sym stand) (said_refused r.core next.core v text_at_hand.0 request said text_at_hand.2 refuses speaks))
+      (subst (λ n. IsSaid r.core n text_at_hand.0 said) (sym stand) (said_refused r.core next.core v text_at_hand.0 request said text_at_hand.2 refuses speaks))
   session_legal (Aborts free asks t b same) = aborts asks free t b same
   session_legal (Populates obj free asks t b begins) =
       goes_on (Populating (new_population obj r.core.query begins.ticket begins.table)) t b (sym (ap (stands_at r.core.query) free)) (ap (λ (y : CoreState). y.sessions) begins.effect)
@@ -309,11 +305,11 @@ module _ (floor : ℕ) (commands : List CommandText) (r next : Round) (place : �
       let stand : stands_at r.core.query session ≡ p.snapshot = ap (stands_at r.core.query) is_p in
       let within : stands_at r.core.query session ≤ r.core.query = stand_within r.core v place session at.does in
       tells Free (reply.Populated p.snapshot (installed_then p r.core.units)) t b within (set_sessions place Free r.core.sessions next.core.sessions (ap (λ (y : CoreState). y.sessions) effect))
-          (record {
-            meant = replies_have_meaning r.core speaks.event _ next.core text_at_hand.0 v (inr speaks.happens) (speaks.text text_at_hand.0 text_at_hand.2);
-            says = record { scn = ap Some (sym stand); synced = tt };
-            open_ = refl;
-          })
+      (record {
+        meant = replies_have_meaning r.core speaks.event _ next.core text_at_hand.0 v (inr speaks.happens) (speaks.text text_at_hand.0 text_at_hand.2);
+        says = record { scn = ap Some (sym stand); synced = tt };
+        open_ = refl;
+      })
   session_legal (BeginsScan select table free asks t b defined columns types effect) =
       goes_on (Scanning (new_scan select r.core.query table)) t b (sym (ap (stands_at r.core.query) free)) (ap (λ (y : CoreState). y.sessions) effect)
   session_legal (Gathers s is_s asks t b left effect) =
@@ -322,11 +318,11 @@ module _ (floor : ℕ) (commands : List CommandText) (r next : Round) (place : �
       let stand : stands_at r.core.query session ≡ s.scn = ap (stands_at r.core.query) is_s in
       let within : stands_at r.core.query session ≤ r.core.query = stand_within r.core v place session at.does in
       tells Free (scan_reply s) t b within (set_sessions place Free r.core.sessions next.core.sessions (ap (λ (y : CoreState). y.sessions) effect))
-          (record {
-            meant = replies_have_meaning r.core speaks.event _ next.core text_at_hand.0 v (inr speaks.happens) (speaks.text text_at_hand.0 text_at_hand.2);
-            says = record { scn = ap Some (sym stand); synced = tt };
-            open_ = refl;
-          })
+      (record {
+        meant = replies_have_meaning r.core speaks.event _ next.core text_at_hand.0 v (inr speaks.happens) (speaks.text text_at_hand.0 text_at_hand.2);
+        says = record { scn = ap Some (sym stand); synced = tt };
+        open_ = refl;
+      })
 
 -- Each turn keeps it.
 pub turn_legal : (floor : ℕ) (commands : List CommandText) (r next : Round) → RoundIs r → RoundIs next → r.aborted ≡ false → TurnIs r next → LegalIs floor commands r.core r.seats r.aborted
@@ -339,6 +335,6 @@ turn_legal floor commands r next is is' a t legal = by_turn t (subst (LegalIs fl
     by_turn (Crewed e i h seats b) l =
         let k = crew_keeps r.core is.core e next.core i h in
         subst (LegalIs floor commands next.core next.seats) (sym b) (subst (λ x. LegalIs floor commands next.core x false) (sym seats)
-            (crew_legal floor commands r.core next.core r.seats is'.core k.sessions k.log k.frontier k.query l))
+        (crew_legal floor commands r.core next.core r.seats is'.core k.sessions k.log k.frontier k.query l))
     by_turn (Seated place seat session request told at does) l =
         session_legal floor commands r next place seat session request told is.core is'.core at l (session_keeps r.core place session request told next.aborted next.core does) does

@@ -1,7 +1,6 @@
 -- What is carried of each seat for the legality of lines, and how a reply more keeps it.
-use Rattle.std.proofs.Common.{◌≡◌, ℕ, zero, suc, ◌+◌, ◌-◌, ◌<◌, ◌≤◌, Bool, true, false, cond, List, [], ◌∷◌, ◌++◌, length, replicate, Option, Some, None, ◌⊎◌, inl, inr, refl, sym, ap, ◌∙◌, subst, arith, true≢false}
-use Rattle.std.specs.Prelude.{slice_get}
-use Rattle.std.specs.List.{AllByRecursion, AllZip, filter_map, count_by, cons_option}
+use Rattle.std.proofs.Common.{◌≡◌, ℕ, zero, suc, ◌+◌, ◌≤◌, true, false, List, [], ◌∷◌, ◌++◌, length, replicate, Some, None, inl, inr, refl, sym, ap, ◌∙◌, subst, arith, true≢false}
+use Rattle.std.specs.List.{AllByRecursion, AllZip, filter_map, cons_option}
 use Rattle.std.proofs.lemmas.List.Elements.{filter_map-append}
 use Rattle.adg_base.specs.declared.log.LogEntry.{LogEntry}
 use Rattle.adg_base.specs.declared.command.Command.{Command}
@@ -14,9 +13,8 @@ use Rattle.adg_model.specs.Transcript.{scn_of, is_down, is_aborted, Rises, AllAr
 use Rattle.adg_model.proofs.CommandLaws.{one_command}
 use Rattle.core_rules.specs.State.{Session, Free, Populating, Scanning, At}
 use Rattle.core_rules.proofs.Lists.{each_append}
-use Rattle.turn_rules.specs.Round.{Request, Reads, Seat}
+use Rattle.turn_rules.specs.Round.{Reads, Seat}
 use Rattle.turn_rules.specs.Turns.{with_reply}
-use Rattle.turn_rules.specs.Telling.{all_replies}
 use Rattle.turn_rules.proofs.LinesOf.{HasReply}
 
 -- the SCN of which a session would say something now

@@ -1,6 +1,6 @@
 -- From delivery to delivery: what earlier lines tell of the units is so again.
-use Rattle.std.proofs.Common.{◌≡◌, ℕ, zero, suc, ◌+◌, ◌-◌, ◌<◌, ◌≤◌, Bool, true, false, cond, not, ◌&&◌, List, [], ◌∷◌, ◌++◌, length, replicate, Option, Some, None, ◌⊎◌, inl, inr, refl, sym, ap, ◌∙◌, subst, arith, true≢false}
-use Rattle.std.specs.Prelude.{slice_get, nat_lt, ◌==◌}
+use Rattle.std.proofs.Common.{◌≡◌, ℕ, zero, suc, ◌+◌, ◌-◌, ◌<◌, ◌≤◌, true, false, cond, not, ◌&&◌, List, [], ◌∷◌, ◌++◌, length, replicate, Option, Some, None, ◌⊎◌, inl, inr, refl, sym, ap, ◌∙◌, subst, arith, true≢false}
+use Rattle.std.specs.Prelude.{nat_lt, ◌==◌}
 use Rattle.std.specs.List.{Contains, filter_map, zip}
 use Rattle.std.proofs.lemmas.Bool.{ltb-true, ltb-false, and_parts}
 use Rattle.std.proofs.lemmas.Slice.Eq.{bytes_eq-Decides}
@@ -29,8 +29,8 @@ use Rattle.core_rules.proofs.Lists.{Has, has_at, at_has, at_within, at_exists, a
 use Rattle.core_rules.proofs.Continued.{tables_stay, stays_within}
 use Rattle.turn_rules.specs.Round.{Reads, Seat, is_through, Round}
 use Rattle.turn_rules.specs.Telling.{all_replies, lines_of}
-use Rattle.turn_rules.specs.Delivery.{IsOfSession, IsReady, Promises}
-use Rattle.turn_rules.specs.Earlier.{Past, PopulatedIn, NoneTold, PopulatedLast, NeverPopulated, told_by_lines, born_by_lines, UnitsAreTold}
+use Rattle.turn_rules.specs.Delivery.{IsOfSession}
+use Rattle.turn_rules.specs.Earlier.{Past, PopulatedIn, NoneTold, PopulatedLast, NeverPopulated, told_by_lines, born_by_lines}
 use Rattle.turn_rules.specs.Laws.{RoundsBegin, TurnsKeepRounds, DeliveriesKeepPromises, DeliveriesTellOn}
 use Rattle.turn_rules.proofs.View.{TurnsAreThese}
 use Rattle.turn_rules.proofs.LinesOf.{replies_to_seat}
@@ -96,7 +96,6 @@ rises_within low high q (p ∷ qs) h (inr k) = let a : low ≤ p = h.0 in let b 
 -- The reply to a POPULATE of an object that is in-memory through a delivery: it is populated.
 module _ (log : List LogEntry) (f low high : ℕ) (obj : ℕ) (text : List ℕ) (spells : Spells text (command.Populate obj)) (table : Table) (flag : table.flag ≡ true)
     (stays : (q : ℕ) → low ≤ q → q ≤ high → table_at log q obj ≡ Some table) where
-
   one : (other : Command) → Spells text other → command.Populate obj ≡ other
   one other h = one_command (command.Populate obj) other spells.0 h.0 (sym spells.1 ∙ h.1)
 
@@ -132,7 +131,6 @@ module _ (log : List LogEntry) (f low high : ℕ) (obj : ℕ) (text : List ℕ) 
 module _ (c : CoreState) (d : CheckedDelivery) (r : Round) (last : IsLast c.query (length c.sessions) d.commands r) (calm : has_abort d.commands ≡ false) (obj : ℕ) (object : IsObj obj)
     (none : NoneTold (record { commands = d.commands; lines = lines_of r }) obj) (table : Table) (flag : table.flag ≡ true)
     (stays : (q : ℕ) → c.query ≤ q → q ≤ r.core.query → table_at r.core.log q obj ≡ Some table) where
-
   nobody_asks : (k : CommandText) → Contains d.commands k → populates obj k.text ≡ true → ⊥
   nobody_asks k h p = by_over last.over
     where
@@ -159,12 +157,12 @@ module _ (c : CoreState) (d : CheckedDelivery) (r : Round) (last : IsLast c.quer
           let reply = at_exists s.0.replies t.0 (omega arith) in
           let meant = meant_at r.core.log r.core.frontier (texts_of (place + 1) d.commands) s.0.replies t.0 k.text reply.0 is.meant t.1 reply.1 in
           let said = says_populated r.core.log r.core.frontier c.query r.core.query obj k.text spells table flag stays reply.0 meant
-              (λ n e. rises_within c.query r.core.query n (filter_map scn_of s.0.replies) is.rises (has_filter_map scn_of s.0.replies reply.0 n (has_at s.0.replies t.0 reply.0 reply.1) e)) in
+          (λ n e. rises_within c.query r.core.query n (filter_map scn_of s.0.replies) is.rises (has_filter_map scn_of s.0.replies reply.0 n (has_at s.0.replies t.0 reply.0 reply.1) e)) in
           let told : Has (told_to (place + 1) d.commands (lines_of r)) (k.text, reply.0) =
-              subst (λ rs. Has (zip (texts_of (place + 1) d.commands) rs) (k.text, reply.0)) (sym (replies_to_seat r.seats place s.0 s.1))
-                  (zip_has (texts_of (place + 1) d.commands) (all_replies s.0) t.0 k.text reply.0 t.1 (at_append_left s.0.replies (replicate (length s.0.requests - length s.0.replies) Down) t.0 reply.0 reply.1)) in
+          subst (λ rs. Has (zip (texts_of (place + 1) d.commands) rs) (k.text, reply.0)) (sym (replies_to_seat r.seats place s.0 s.1))
+          (zip_has (texts_of (place + 1) d.commands) (all_replies s.0) t.0 k.text reply.0 t.1 (at_append_left s.0.replies (replicate (length s.0.requests - length s.0.replies) Down) t.0 reply.0 reply.1)) in
           told_some obj said.0 (told_to (place + 1) d.commands (lines_of r)) (k.text, reply.0) told
-              (ap (λ x. populated_by obj (k.text, x)) said.2 ∙ ap (λ b. cond b (Some said.0) None) p) (none (place + 1))
+          (ap (λ x. populated_by obj (k.text, x)) said.2 ∙ ap (λ b. cond b (Some said.0) None) p) (none (place + 1))
 
   nobody_else : (session : ℕ) → others_populate session obj d.commands ≡ false
   nobody_else session = any_none (λ (k : CommandText). not (k.session == session) && populates obj k.text) d.commands
@@ -203,8 +201,8 @@ deliveries_tell_on these keep begin promised c d turns new lines pasts ready x t
   born = born_now (is_true (nat_lt 0 (replies_that is_aborted lines.list)));
   columns = subst (λ n. ColumnUse new.log d.frontier c.query n (told_by_lines pasts) d.commands lines) born
       (use_by_lines new.log d.frontier c.query c.born c.units pasts d.commands lines
-          (λ obj since n k. still_ready obj since k (subst (λ l. NotRedefined l obj since d.frontier) (promised c d turns new lines ready x).log n))
-          (λ obj k. told.never obj k) (promised c d turns new lines ready x).columns);
+      (λ obj since n k. still_ready obj since k (subst (λ l. NotRedefined l obj since d.frontier) (promised c d turns new lines ready x).log n))
+      (λ obj k. told.never obj k) (promised c d turns new lines ready x).columns);
 }
   where
     last : IsLast c.query (length c.sessions) d.commands x.last
@@ -267,8 +265,8 @@ deliveries_tell_on these keep begin promised c d turns new lines pasts ready x t
                 let upto : c.query ≤ c.frontier = query_within c ready.invariant in
                 let most : x.last.core.query ≤ x.last.core.frontier = query_within x.last.core last.stands.core in
                 facts.same_table obj scn m before.table (omega arith)
-                    (subst (λ l. table_at l scn obj ≡ Some before.table) (sym log_is) (stays_defined c d x.received ready.invariant x.receives scn obj (omega arith) ∙ before.defined))
-                    (λ e i b l h. redefined e (subst (λ xs. Contains xs e) log_is i) b l (omega (arith, h, high, most, frontier_is)))
+                (subst (λ l. table_at l scn obj ≡ Some before.table) (sym log_is) (stays_defined c d x.received ready.invariant x.receives scn obj (omega arith) ∙ before.defined))
+                (λ e i b l h. redefined e (subst (λ xs. Contains xs e) log_is i) b l (omega (arith, h, high, most, frontier_is)))
 
             alone : others_populate 0 obj d.commands ≡ false
             alone = nobody_else c d x.last last k.0 obj (object_of pasts obj scn q.1) (λ session. subst (λ (l : Lines). last_populated obj (told_to session d.commands l) ≡ None) x.says (q.0 session)) before.table flag stays 0

@@ -1,7 +1,7 @@
 -- What the coordinator and the workers leave of the column units.
 use Rattle.std.proofs.Common.{◌≡◌, ℕ, ◌<◌, ◌≤◌, Bool, true, false, List, map, length, Option, Some, None, ◌⊎◌, inl, inr, refl, sym, ap, ◌∙◌, subst, arith, true≢false}
 use Rattle.std.specs.Prelude.{nat_lt, nat_le}
-use Rattle.std.specs.List.{Contains, list_any, flat_map}
+use Rattle.std.specs.List.{Contains, flat_map}
 use Rattle.std.proofs.lemmas.Bool.{eqb-true, eq-eqb, ltb-true, leb-true, and_parts, cases_eq}
 use Rattle.std.proofs.lemmas.List.Sorted.{Contains-permutation, IsPermutation-sym}
 use Rattle.adg_base.specs.Shard.{shard_of_unit}
@@ -17,9 +17,9 @@ use Rattle.adg_model.specs.Mined.{end_item, node_item, ddl_item}
 use Rattle.core_rules.specs.declared.event.Event.{Event}
 use Rattle.core_rules.specs.declared.event.Event.TheVariants as event
 use Rattle.core_rules.specs.declared.event.CoreAnswer.TheVariants.{Moved}
-use Rattle.core_rules.specs.Share.{shares, redefines, begun_above, nodes_of, ddl_by, ddl_of, ddl_in, NotRedefined}
+use Rattle.core_rules.specs.Share.{shares, redefines, ddl_by, ddl_of, ddl_in, NotRedefined}
 use Rattle.core_rules.specs.State.{CoreState, ColumnUnit, Units, Collected, Link, At, limit, is_drop_of, has_drop}
-use Rattle.core_rules.specs.Flush.{Touches, IsTouched, IsKeptMarked}
+use Rattle.core_rules.specs.Flush.{Touches, IsTouched}
 use Rattle.core_rules.specs.Parts.{is_within, flush_nodes, flush_ddl, flush_items, items_of}
 use Rattle.core_rules.specs.Step.{Happens}
 use Rattle.core_rules.specs.Invariant.{Invariant}

@@ -1,8 +1,7 @@
 -- What is carried through a round for column use, and the statements between the parts of its proof.
-use Rattle.std.proofs.Common.{◌≡◌, ℕ, ◌+◌, ◌-◌, ◌<◌, ◌≤◌, Bool, true, false, List, [], ◌∷◌, ◌++◌, length, filter, Option, Some, None}
-use Rattle.std.specs.Prelude.{slice_get, is_some, is_none}
+use Rattle.std.proofs.Common.{◌≡◌, ℕ, ◌+◌, ◌-◌, ◌<◌, ◌≤◌, Bool, true, false, List, [], ◌∷◌, ◌++◌, length, Option, Some, None}
+use Rattle.std.specs.Prelude.{slice_get, is_some}
 use Rattle.std.specs.List.{Contains, AllZip, zip}
-use Rattle.adg_base.specs.Address.{Place}
 use Rattle.adg_base.specs.declared.log.LogEntry.{LogEntry}
 use Rattle.adg_base.specs.declared.command.Command.TheVariants as command
 use Rattle.adg_base.specs.declared.command.CommandText.{CommandText}
@@ -10,19 +9,19 @@ use Rattle.adg_base.specs.declared.command.Select.{Select}
 use Rattle.adg_base.specs.declared.answer.Reply.{Reply}
 use Rattle.adg_base.specs.declared.answer.Reply.TheVariants as reply
 use Rattle.adg_model.specs.Command.{Spells}
-use Rattle.adg_model.specs.Database.{Rows, Table, rows_at, table_at}
-use Rattle.adg_model.specs.Transcript.{texts_of, replies_to}
+use Rattle.adg_model.specs.Database.{Table, rows_at, table_at}
+use Rattle.adg_model.specs.Transcript.{texts_of}
 use Rattle.core_rules.specs.declared.event.Event.{Event}
 use Rattle.core_rules.specs.declared.event.CoreAnswer.TheVariants.{Moved}
 use Rattle.core_rules.specs.Share.{NotRedefined}
-use Rattle.core_rules.specs.State.{CoreState, ColumnUnit, Units, Population, Scan, Session, Free, Populating, Scanning, At}
+use Rattle.core_rules.specs.State.{CoreState, ColumnUnit, Units, Population, Scan, Session, Populating, Scanning, At}
 use Rattle.core_rules.specs.Populations.{loading, with_unit, units_installed, installed_then, has_more}
-use Rattle.core_rules.specs.Scans.{scan_then, next_look, next_places, count_from_columns, count_from_blocks}
+use Rattle.core_rules.specs.Scans.{next_look, next_places, count_from_columns, count_from_blocks}
 use Rattle.core_rules.specs.Step.{Happens}
 use Rattle.core_rules.specs.Runs.{Move}
 use Rattle.core_rules.specs.UnitParts.{CoarseWithin}
 use Rattle.core_rules.specs.Invariant.{Invariant, Precise}
-use Rattle.core_rules.specs.ColumnUse.{Told, told_to, Before, WasPopulated, has_abort, others_populate, anyone_populates, populates, IsUndisturbed, is_touched, touched_rows, RowsAreTouched, HasReadyUnits, HasNoUnits, told_by_units}
+use Rattle.core_rules.specs.ColumnUse.{Told, Before, WasPopulated, has_abort, others_populate, anyone_populates, IsUndisturbed, touched_rows, RowsAreTouched, HasReadyUnits, HasNoUnits}
 use Rattle.turn_rules.specs.Round.{Reads, Seat, Round}
 use Rattle.turn_rules.specs.Turns.{TakesTurn}
 use Rattle.turn_rules.specs.Standing.{RoundIs}
@@ -82,7 +81,7 @@ BuildingGoesOn =
     → ((p.holds ≡ true → p.registered < p.table.extents → IsBuilding (with_unit p.obj p.registered (Some (loading p)) units) (record p { registered = p.registered + 1 }))
     × (p.table.extents ≤ p.registered → IsBuilding units (record p { holds = false }))
     × (p.holds ≡ false → p.extent < p.table.extents → has_more p ≡ true
-        → IsBuilding (units_installed p units) (record p { extent = p.extent + 1; blocks = 0; read = []; installed = installed_then p units })))
+    → IsBuilding (units_installed p units) (record p { extent = p.extent + 1; blocks = 0; read = []; installed = installed_then p units })))
 
 abbrev pub BuildingEnds : Type 0
 BuildingEnds =
@@ -105,7 +104,7 @@ ScansGather =
     → (s.table.flag ≡ false → count_from_columns (next_look c s) (next_places s) ≡ 0)
     × (HasNoUnits c.units s.select.obj → count_from_columns (next_look c s) (next_places s) ≡ 0)
     × ((since : ℕ) → since ≤ s.scn → HasReadyUnits c.log c.units s.select.obj since → NotRedefined c.log s.select.obj since c.frontier
-        → (CoarseWithin c.log c.born since c.frontier → ⊥) → GathersTouched c s since)
+    → (CoarseWithin c.log c.born since c.frontier → ⊥) → GathersTouched c s since)
 
 -- What is fixed through a round: the log and the frontier, the QuerySCN and born as it began, what was before, and the
 -- commands.
@@ -164,7 +163,7 @@ pub record UseIs (x : Scene) (c : CoreState) (seats : List Seat) : Type 0 where
       → (PopulatesNow c.sessions session obj → ⊥) → HasReadyUnits x.log c.units obj scn
   pub building : (place : ℕ) (p : Population) → At c.sessions place (Populating p)
       → (x.floor ≤ p.snapshot) × (has_abort x.commands ≡ false → others_populate (place + 1) p.obj x.commands ≡ false → NotRedefined x.log p.obj p.snapshot x.frontier
-          → IsBuilding c.units p)
+      → IsBuilding c.units p)
   pub scans : (place : ℕ) (s : Scan) → At c.sessions place (Scanning s) → ScanUse x (place + 1) (told_so_far x.commands seats (place + 1)) s
   pub answers : (session : ℕ) → AnswersUse x session (told_so_far x.commands seats session)
 

@@ -1,7 +1,7 @@
 -- Column use at the end of a round, and the units that stand then.
 use Rattle.std.proofs.Common.{◌≡◌, ℕ, zero, suc, ◌+◌, ◌-◌, ◌<◌, ◌≤◌, Bool, true, false, cond, List, [], ◌∷◌, ◌++◌, length, replicate, Option, Some, None, ◌⊎◌, inl, inr, refl, sym, ap, ◌∙◌, subst, arith, true≢false, append_assoc}
 use Rattle.std.specs.Prelude.{slice_get}
-use Rattle.std.specs.List.{Contains, AllByRecursion, zip}
+use Rattle.std.specs.List.{Contains, zip}
 use Rattle.std.proofs.lemmas.Bool.{cases_lt}
 use Rattle.adg_base.specs.declared.command.CommandText.{CommandText}
 use Rattle.adg_base.specs.declared.answer.Reply.{Reply}
@@ -9,28 +9,26 @@ use Rattle.adg_base.specs.declared.answer.Reply.TheVariants.{Down}
 use Rattle.adg_base.specs.declared.answer.Lines.{Lines}
 use Rattle.adg_model.specs.declared.delivery.CheckedDelivery.{CheckedDelivery}
 use Rattle.adg_model.specs.Transcript.{texts_of, replies_to, replies_that, is_aborted}
-use Rattle.core_rules.specs.Share.{NotRedefined}
-use Rattle.core_rules.specs.State.{CoreState, Population, Scan, Session, Free, Populating, Scanning, At}
+use Rattle.core_rules.specs.State.{CoreState, Session, Free, Populating, Scanning, At}
 use Rattle.core_rules.specs.Runs.{Move}
 use Rattle.core_rules.specs.Applying.{Receives}
-use Rattle.core_rules.specs.ColumnUse.{Told, told_to, last_populated, WasPopulated, has_abort, others_populate, anyone_populates, HasReadyUnits, HasNoUnits, told_by_units, ColumnUse, UnitsAfter}
-use Rattle.core_rules.proofs.Lists.{at_within, at_exists, each_at, each_contains, is_true}
+use Rattle.core_rules.specs.ColumnUse.{Told, told_to, last_populated, WasPopulated, HasReadyUnits, told_by_units, ColumnUse, UnitsAfter}
+use Rattle.core_rules.proofs.Lists.{at_within, at_exists, each_at, each_contains}
 use Rattle.turn_rules.specs.Round.{Seat, Round, AreSeats, opening_round}
-use Rattle.turn_rules.specs.Turns.{TakesTurn, Plays}
-use Rattle.turn_rules.specs.Telling.{all_replies, seats_lines, lines_of}
+use Rattle.turn_rules.specs.Telling.{seats_lines, lines_of}
 use Rattle.turn_rules.specs.Standing.{RoundIs}
 use Rattle.turn_rules.specs.Delivery.{Delivers, IsOfSession, IsReady}
 use Rattle.turn_rules.specs.Laws.{RoundsBegin, TurnsKeepRounds, UseIsMet, UnitsAreStated}
 use Rattle.turn_rules.proofs.View.{TurnsAreThese}
 use Rattle.turn_rules.proofs.LinesOf.{replies_to_seat, replies_to_none}
 use Rattle.turn_rules.proofs.SeatTurns.{LegalIs, turn_legal}
-use Rattle.turn_rules.proofs.Over.{IsOver, over_is, over_free, plays_keep, plays_stand}
+use Rattle.turn_rules.proofs.Over.{over_is, over_free, plays_keep}
 use Rattle.turn_rules.proofs.Ended.{as_many}
 use Rattle.turn_rules.proofs.LegalLines.{last_of, opening_legal, received_is, aborted_once}
 use Rattle.turn_rules.proofs.WasTold.{last_left, was_same}
 use Rattle.turn_rules.proofs.UseSessions.{zip_more, zip_nothing, zip_empty, no_texts, answers_more}
 use Rattle.turn_rules.proofs.Waits.{get_beyond}
-use Rattle.turn_rules.proofs.Use.{replies_of, told_so_far, Scene, ReplyUse, AnswersUse, PopulatesNow, UseIs, UseEnded, UseByAbort, SeatsAreOf, TurnsKeepUse}
+use Rattle.turn_rules.proofs.Use.{replies_of, told_so_far, Scene, AnswersUse, UseIs, UseByAbort, SeatsAreOf, TurnsKeepUse}
 
 -- what stays the same in a delivery
 abbrev pub scene : CoreState → CheckedDelivery → Scene
@@ -65,7 +63,7 @@ begins_use c d received seats ready receives read = record {
   none = λ obj a b extent. ap (λ (y : CoreState). y.units obj extent) receives.effect ∙ a extent;
   filled = λ session obj scn a o w n p.
       subst (λ us. HasReadyUnits (c.log ++ d.entries) us obj scn) (sym (ap (λ (y : CoreState). y.units) receives.effect))
-          (subst (WasPopulated (told_by_units (c.log ++ d.entries) c.units) obj scn) (told_nothing d.commands seats none_told session) w);
+      (subst (WasPopulated (told_by_units (c.log ++ d.entries) c.units) obj scn) (told_nothing d.commands seats none_told session) w);
   building = λ place p h. let e : Populating p ≡ Free = free place (Populating p) h in absurd cc;
   scans = λ place s h. let e : Scanning s ≡ Free = free place (Scanning s) h in absurd cc;
   answers = λ session. subst (AnswersUse (scene c d) session) (sym (told_nothing d.commands seats none_told session)) (nothing_answered (scene c d) session);
@@ -99,10 +97,12 @@ use_of these keep begin keep_use c d turns new lines ready x = kept.2
     kept : LegalIs c.query d.commands x.last.core x.last.seats x.last.aborted × (length x.last.seats ≡ length c.sessions) × UseByAbort (scene c d) x.last.core x.last.seats x.last.aborted
     kept = plays_keep (λ r. LegalIs c.query d.commands r.core r.seats r.aborted × (length r.seats ≡ length c.sessions) × UseByAbort (scene c d) r.core r.seats r.aborted) d.schedule keep
         (λ r move next is is' t h.
-            let these_are = these d.schedule r move next is t in
-            let many = as_many d.schedule r move next is t in
-            (turn_legal c.query d.commands r next is is' these_are.0 these_are.1 h.0, many.seats ∙ h.1,
-            keep_use (scene c d) d.schedule r move next t is (seats_are_of c d r ready is h.0 h.1) h.2))
+        let these_are = these d.schedule r move next is t in
+        let many = as_many d.schedule r move next is t in (
+          turn_legal c.query d.commands r next is is' these_are.0 these_are.1 h.0,
+          many.seats ∙ h.1,
+          keep_use (scene c d) d.schedule r move next t is (seats_are_of c d r ready is h.0 h.1) h.2,
+        ))
         (opening_round x.received x.seats) turns x.last begins x.plays
         (opening_legal c d x.received x.seats ready x.receives x.read, x.read.count, begins_use c d x.received x.seats ready x.receives x.read)
 
@@ -152,15 +152,15 @@ told_is commands r asked (suc place) = by_place (cases_lt place (length r.seats)
   where
     by_place : (place < length r.seats) ⊎ (length r.seats ≤ place) → IsTold commands r (suc place)
     by_place (inr l) = Nobody (ap (λ n. zip (texts_of (suc place) commands) (replies_of (slice_get r.seats n))) (let f : suc place - 1 ≡ place = omega arith in f)
-            ∙ ap (λ o. zip (texts_of (suc place) commands) (replies_of o)) (get_beyond r.seats place l) ∙ zip_nothing (texts_of (suc place) commands))
+        ∙ ap (λ o. zip (texts_of (suc place) commands) (replies_of o)) (get_beyond r.seats place l) ∙ zip_nothing (texts_of (suc place) commands))
         (ap (zip (texts_of (suc place) commands)) (replies_to_none r.seats (suc place) (inr (omega arith))) ∙ zip_nothing (texts_of (suc place) commands))
     by_place (inl l) =
         let s = at_exists r.seats place l in
         let e : place + 1 ≡ suc place = omega arith in
         let f : suc place - 1 ≡ place = omega arith in
         Seated (length s.0.requests - length s.0.replies) s.0.replies
-            (ap (λ n. zip (texts_of (suc place) commands) (replies_of (slice_get r.seats n))) f ∙ ap (λ o. zip (texts_of (suc place) commands) (replies_of o)) s.1)
-            (ap (zip (texts_of (suc place) commands)) (ap (λ n. replies_to n (seats_lines 1 r.seats)) (sym e) ∙ replies_to_seat r.seats place s.0 s.1))
+        (ap (λ n. zip (texts_of (suc place) commands) (replies_of (slice_get r.seats n))) f ∙ ap (λ o. zip (texts_of (suc place) commands) (replies_of o)) s.1)
+        (ap (zip (texts_of (suc place) commands)) (ap (λ n. replies_to n (seats_lines 1 r.seats)) (sym e) ∙ replies_to_seat r.seats place s.0 s.1))
 
 answers_end : (x : Scene) (r : Round) → ((c : CommandText) → Contains x.commands c → 1 ≤ c.session) → (session : ℕ) → AnswersUse x session (told_so_far x.commands r.seats session) → AnswersUse x session (told_to session x.commands (lines_of r))
 answers_end x r asked session h = by_told (told_is x.commands r asked session)
@@ -187,7 +187,7 @@ use_is_met these keep begin keep_use c d turns new lines ready x =
     let met = used (scene c d) x.last (answers_of (scene c d) x.last (λ k h. (each_contains (IsOfSession (length c.sessions)) d.commands k ready.asked h).0) x.last.aborted u) in
     let log : new.log ≡ c.log ++ d.entries = ap (λ (y : CoreState). y.log) x.core ∙ (received_is these keep begin c d turns new lines ready x).1 in
     subst (λ (l : Lines). ColumnUse new.log d.frontier c.query c.born (told_by_units new.log c.units) d.commands l) (sym x.says)
-        (subst (λ l. ColumnUse l d.frontier c.query c.born (told_by_units l c.units) d.commands (lines_of x.last)) (sym log) met)
+    (subst (λ l. ColumnUse l d.frontier c.query c.born (told_by_units l c.units) d.commands (lines_of x.last)) (sym log) met)
 
 -- the units afterwards
 stated : (x : Scene) (r : Round) → ((c : CommandText) → Contains x.commands c → 1 ≤ c.session) → (aborted : Bool) → ((place : ℕ) (s : Session) → At r.core.sessions place s → s ≡ Free) → replies_that is_aborted (lines_of r).list ≡ cond aborted 1 0 → UseByAbort x r.core r.seats aborted
@@ -221,5 +221,5 @@ units_are_stated these keep begin keep_use c d turns new lines ready x =
     let s = stated (scene c d) x.last (λ k h. (each_contains (IsOfSession (length c.sessions)) d.commands k ready.asked h).0) x.last.aborted (over_free x.last stands over) count u in
     let log : new.log ≡ c.log ++ d.entries = ap (λ (y : CoreState). y.log) x.core ∙ (received_is these keep begin c d turns new lines ready x).1 in
     subst (λ (l : Lines). UnitsAfter new.log d.frontier c.born (told_by_units new.log c.units) d.commands l new.units new.born) (sym x.says)
-        (subst (λ l. UnitsAfter l d.frontier c.born (told_by_units l c.units) d.commands (lines_of x.last) new.units new.born) (sym log)
-            (subst (λ (y : CoreState). UnitsAfter (c.log ++ d.entries) d.frontier c.born (told_by_units (c.log ++ d.entries) c.units) d.commands (lines_of x.last) y.units y.born) (sym x.core) s))
+    (subst (λ l. UnitsAfter l d.frontier c.born (told_by_units l c.units) d.commands (lines_of x.last) new.units new.born) (sym log)
+    (subst (λ (y : CoreState). UnitsAfter (c.log ++ d.entries) d.frontier c.born (told_by_units (c.log ++ d.entries) c.units) d.commands (lines_of x.last) y.units y.born) (sym x.core) s))

@@ -1,19 +1,16 @@
 -- What sessions are told, which commands ask for, and which units stand: the pieces of column use.
-use Rattle.std.proofs.Common.{◌≡◌, ℕ, zero, suc, ◌+◌, ◌-◌, ◌<◌, ◌≤◌, Bool, true, false, cond, not, ◌&&◌, List, [], ◌∷◌, ◌++◌, length, Option, Some, None, ◌⊎◌, inl, inr, refl, sym, ap, ◌∙◌, subst, arith, true≢false}
+use Rattle.std.proofs.Common.{◌≡◌, ℕ, zero, suc, ◌+◌, ◌-◌, ◌≤◌, Bool, true, false, cond, not, ◌&&◌, List, [], ◌∷◌, ◌++◌, length, Option, Some, None, ◌⊎◌, inl, inr, refl, sym, ap, ◌∙◌, subst, arith}
 use Rattle.std.specs.Prelude.{slice_get, slice_set, ◌==◌, is_some}
-use Rattle.std.specs.List.{Contains, AllZip, list_any, zip}
-use Rattle.std.proofs.lemmas.Bool.{ne_eqb, and_from, and_left, cases_eq}
+use Rattle.std.specs.List.{Contains, zip}
+use Rattle.std.proofs.lemmas.Bool.{ne_eqb, and_from, and_left}
 use Rattle.std.proofs.lemmas.Slice.Eq.{bytes_eq-Decides}
 use Rattle.adg_base.specs.declared.log.LogEntry.{LogEntry}
-use Rattle.adg_base.specs.declared.command.Command.{Command}
 use Rattle.adg_base.specs.declared.command.Command.TheVariants as command
 use Rattle.adg_base.specs.declared.command.CommandText.{CommandText}
 use Rattle.adg_base.specs.declared.answer.Reply.{Reply}
 use Rattle.adg_model.specs.Command.{Spells, command_bytes}
-use Rattle.adg_model.specs.Database.{Table, table_at}
 use Rattle.adg_model.specs.Transcript.{texts_of, is_abort}
-use Rattle.core_rules.specs.Share.{NotRedefined}
-use Rattle.core_rules.specs.State.{CoreState, ColumnUnit, Units, Population, Session, At}
+use Rattle.core_rules.specs.State.{CoreState, ColumnUnit, Units, Population, At}
 use Rattle.core_rules.specs.Populations.{with_unit, awaits, filled, units_installed}
 use Rattle.core_rules.specs.LogFacts.{LogFacts}
 use Rattle.core_rules.specs.Invariant.{Invariant}
@@ -99,7 +96,7 @@ answers_more x session told t said old new earlier later text r e = by_case (sno
     by_case (inr p) = old earlier p.0 text r p.1
     by_case (inl p) =
         subst (λ es. ReplyUse x session es text r) (sym p.0)
-            (subst (λ b. ReplyUse x session told b r) (sym (ap (λ (q : Told). q.0) p.1)) (subst (λ b. ReplyUse x session told t b) (sym (ap (λ (q : Told). q.1) p.1)) new))
+        (subst (λ b. ReplyUse x session told b r) (sym (ap (λ (q : Told). q.0) p.1)) (subst (λ b. ReplyUse x session told t b) (sym (ap (λ (q : Told). q.1) p.1)) new))
 
 -- The text at hand stands among the commands.
 pub record AtHand (commands : List CommandText) (place : ℕ) (seat : Seat) (request : Request) : Type 0 where
@@ -129,7 +126,7 @@ anyone_does commands place seat obj k = any_contains (λ (c : CommandText). popu
 pub others_do : (commands : List CommandText) (place session : ℕ) (seat : Seat) (obj : ℕ) → AtHand commands place seat (Asks (command.Populate obj)) → (session ≡ place + 1 → ⊥) → others_populate session obj commands ≡ true
 others_do commands place session seat obj k d = any_contains (λ (c : CommandText). not (c.session == session) && populates obj c.text) commands k.given k.within
     (and_from (not (k.given.session == session)) (populates obj k.given.text)
-        (ap not (ne_eqb k.given.session session (λ e. d (sym e ∙ k.session)))) (command_populates commands place seat obj k))
+    (ap not (ne_eqb k.given.session session (λ e. d (sym e ∙ k.session)))) (command_populates commands place seat obj k))
 
 pub aborts_do : (commands : List CommandText) (place : ℕ) (seat : Seat) → AtHand commands place seat (Asks command.Abort) → has_abort commands ≡ true
 aborts_do commands place seat k = any_contains is_abort commands k.given k.within (text_abort k.given (subst (λ t. Spells t command.Abort) (sym k.is) k.reads))

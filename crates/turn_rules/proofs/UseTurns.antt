@@ -1,12 +1,10 @@
 -- Each turn keeps what is carried for column use.
-use Rattle.std.proofs.Common.{◌≡◌, ℕ, zero, suc, ◌+◌, ◌-◌, ◌<◌, ◌≤◌, Bool, true, false, cond, List, [], ◌∷◌, ◌++◌, length, drop, ◌^◌, Option, Some, None, ◌⊎◌, inl, inr, refl, sym, ap, ◌∙◌, subst, arith, true≢false}
-use Rattle.std.specs.Prelude.{slice_get, slice_set}
+use Rattle.std.proofs.Common.{◌≡◌, ℕ, ◌+◌, ◌<◌, ◌≤◌, Bool, true, false, cond, List, [], ◌∷◌, ◌++◌, drop, ◌^◌, Option, Some, None, ◌⊎◌, inl, inr, refl, sym, ap, ◌∙◌, subst, arith, true≢false}
+use Rattle.std.specs.Prelude.{slice_set}
 use Rattle.std.specs.List.{Contains}
 use Rattle.std.proofs.lemmas.Bool.{cases_eq}
 use Rattle.std.proofs.lemmas.Slice.Eq.{bytes_eq-Decides}
-use Rattle.adg_base.specs.declared.log.LogEntry.{LogEntry}
 use Rattle.adg_base.specs.declared.placed.PlacedRow.{PlacedRow}
-use Rattle.adg_base.specs.declared.command.Command.{Command}
 use Rattle.adg_base.specs.declared.command.Command.TheVariants as command
 use Rattle.adg_base.specs.declared.command.CommandText.{CommandText}
 use Rattle.adg_base.specs.declared.command.Select.{Select}
@@ -15,7 +13,6 @@ use Rattle.adg_base.specs.declared.answer.Reply.TheVariants as reply
 use Rattle.adg_model.specs.Command.{Spells, command_bytes}
 use Rattle.adg_model.specs.Database.{Table, rows_at, table_at}
 use Rattle.adg_model.specs.Query.{has_columns, has_types}
-use Rattle.adg_model.specs.Transcript.{texts_of}
 use Rattle.adg_model.proofs.CommandLaws.{one_command}
 use Rattle.core_rules.specs.Share.{NotRedefined}
 use Rattle.core_rules.specs.State.{CoreState, Units, Population, Scan, Session, Free, Populating, Scanning, At}
@@ -23,18 +20,18 @@ use Rattle.core_rules.specs.Populations.{with_session, new_population, loading, 
 use Rattle.core_rules.specs.Scans.{new_scan, scan_then, scan_reply, scan_refusal, next_look, next_places, count_from_blocks}
 use Rattle.core_rules.specs.Restarts.{restarted}
 use Rattle.core_rules.specs.Invariant.{Invariant}
-use Rattle.core_rules.specs.ColumnUse.{Told, WasPopulated, populates, populated_scn, populated_by, last_populated, or_earlier, has_abort, others_populate, anyone_populates, IsUndisturbed, touched_rows, RowsAreTouched, HasReadyUnits, HasNoUnits}
+use Rattle.core_rules.specs.ColumnUse.{Told, WasPopulated, populates, populated_scn, populated_by, last_populated, or_earlier, has_abort, others_populate, anyone_populates, touched_rows, RowsAreTouched, HasReadyUnits}
 use Rattle.core_rules.specs.UnitParts.{CoarseWithin}
 use Rattle.core_rules.proofs.Lists.{at_same, at_within, at_set_same, at_set_kept, at_set_cases}
-use Rattle.turn_rules.specs.Round.{Request, Asks, Garbles, Reads, Seat, at_hand, Round}
+use Rattle.turn_rules.specs.Round.{Request, Asks, Garbles, Reads, Seat, Round}
 use Rattle.turn_rules.specs.Turns.{with_reply}
 use Rattle.turn_rules.specs.Standing.{RoundIs}
 use Rattle.turn_rules.proofs.View.{RepliesAlone, Refuses, SessionIs, Replied, Aborts, Refused, Populates, Registers, Releases, ReadsOn, EndsExtent, EndsPopulation, BeginsScan, Gathers, EndsScan, SeatsAre, AtSeat, TurnIs, Rested, Crewed, Seated, TurnsAreThese}
 use Rattle.turn_rules.proofs.CrewKept.{session_keeps, SessionKeeps}
 use Rattle.turn_rules.proofs.Decimals.{same_object}
-use Rattle.turn_rules.proofs.WasTold.{was_none, was_some, last_more, last_left, was_same}
+use Rattle.turn_rules.proofs.WasTold.{was_some, last_more, was_same}
 use Rattle.turn_rules.proofs.UseSessions.{told_other, told_own, answers_more, AtHand, text_at_hand, anyone_does, others_do, aborts_do, spelled_populates, ready_stay, ready_published, building_stay, unit_of_other, installed_other, stay_by}
-use Rattle.turn_rules.proofs.Use.{replies_of, told_so_far, UnitsStay, CrewLeaves, CrewLeavesUnits, IsBuilding, BuildingGoesOn, BuildingEnds, GathersTouched, ScansGather, Scene, ScanUse, RowsUse, ReplyUse, AnswersUse, PopulatesNow, UseIs, UseEnded, UseByAbort, SeatsAreOf, TurnsKeepUse}
+use Rattle.turn_rules.proofs.Use.{told_so_far, CrewLeaves, CrewLeavesUnits, IsBuilding, BuildingGoesOn, BuildingEnds, GathersTouched, ScansGather, Scene, ScanUse, RowsUse, ReplyUse, AnswersUse, PopulatesNow, UseIs, UseEnded, UseByAbort, SeatsAreOf, TurnsKeepUse}
 
 -- An event of the coordinator or a worker.
 crew_use : (x : Scene) (c new : CoreState) (seats : List Seat) → Invariant c → CrewLeaves c new → UseIs x c seats → UseIs x new seats
@@ -132,7 +129,6 @@ building_read units p blocks read b = record {
 -- What a session does.
 module _ (x : Scene) (r next : Round) (place : ℕ) (seat : Seat) (session : Session) (request : Request) (told : Option Reply) (goes_on : BuildingGoesOn) (ends : BuildingEnds) (gathers : ScansGather)
     (is : RoundIs r) (so : SeatsAreOf x.commands r.seats) (at : AtSeat r next place seat session request told) (u : UseIs x r.core r.seats) (keeps : SessionKeeps r.core next.core) where
-
   hand : AtHand x.commands place seat request
   hand = text_at_hand x.commands r.seats place seat request so at.seated at.asks
 
@@ -172,8 +168,8 @@ module _ (x : Scene) (r next : Round) (place : ℕ) (seat : Seat) (session : Ses
       by_session (inr d) = subst (WasPopulated x.before obj scn) (told_elsewhere said t n d) w
       by_session (inl e) = was_same x.before obj scn (told_so_far x.commands r.seats n) (told_so_far x.commands next.seats n)
           (ap (λ m. last_populated obj (told_so_far x.commands next.seats m)) e ∙ ap (last_populated obj) (told_here said t)
-              ∙ last_more obj (told_so_far x.commands r.seats (place + 1)) (hand.text, said) ∙ ap (λ o. or_earlier o (last_populated obj (told_so_far x.commands r.seats (place + 1)))) silent
-              ∙ ap (λ m. last_populated obj (told_so_far x.commands r.seats m)) (sym e)) w
+          ∙ last_more obj (told_so_far x.commands r.seats (place + 1)) (hand.text, said) ∙ ap (λ o. or_earlier o (last_populated obj (told_so_far x.commands r.seats (place + 1)))) silent
+          ∙ ap (λ m. last_populated obj (told_so_far x.commands r.seats m)) (sym e)) w
 
   plain_silent : (said : Reply) → populated_scn said ≡ None → (obj : ℕ) → populated_by obj (hand.text, said) ≡ None
   plain_silent said h obj = by_test (populates obj hand.text)
@@ -294,11 +290,11 @@ module _ (x : Scene) (r next : Round) (place : ℕ) (seat : Seat) (session : Ses
       → ((o e : ℕ) → (o ≡ p.obj → ⊥) → units o e ≡ r.core.units o e) → (IsBuilding r.core.units p → IsBuilding units q) → UseIs x next.core next.seats
   population_on p q units is_p asks t same_obj same_snapshot sessions units_are born other on =
       goes (Populating q) units t sessions units_are born
-          (λ obj b e. other obj e (not_this p.obj obj asks b))
-          (λ n obj o d. (on_before p q is_p same_obj sessions n obj d, λ e. other obj e (λ f. busy n obj o d f)))
-          (λ n z d o e. other z.obj e (λ f. not_others p.obj (n + 1) asks (subst (λ k. others_populate (n + 1) k x.commands ≡ false) f o) (λ g. d (omega arith))))
-          (λ z e. building z e)
-          (λ s e. let k : Scanning s ≡ Populating q = e in absurd cc)
+      (λ obj b e. other obj e (not_this p.obj obj asks b))
+      (λ n obj o d. (on_before p q is_p same_obj sessions n obj d, λ e. other obj e (λ f. busy n obj o d f)))
+      (λ n z d o e. other z.obj e (λ f. not_others p.obj (n + 1) asks (subst (λ k. others_populate (n + 1) k x.commands ≡ false) f o) (λ g. d (omega arith))))
+      (λ z e. building z e)
+      (λ s e. let k : Scanning s ≡ Populating q = e in absurd cc)
     where
       busy : (n obj : ℕ) → others_populate n obj x.commands ≡ false → (PopulatesNow next.core.sessions n obj → ⊥) → obj ≡ p.obj → ⊥
       busy n obj o d f = by_session (cases_eq n (place + 1))
@@ -319,10 +315,11 @@ module _ (x : Scene) (r next : Round) (place : ℕ) (seat : Seat) (session : Ses
           let same : z ≡ q = cc in
           let b = u.building place p (subst (At r.core.sessions place) is_p at.does) in
           subst (λ (y : Population). (x.floor ≤ y.snapshot)
-              × (has_abort x.commands ≡ false → others_populate (place + 1) y.obj x.commands ≡ false → NotRedefined x.log y.obj y.snapshot x.frontier → IsBuilding units y)) (sym same)
-              (subst (λ k. x.floor ≤ k) (sym same_snapshot) b.0,
-              λ a o m. on (b.1 a (subst (λ k. others_populate (place + 1) k x.commands ≡ false) same_obj o)
-                  (subst (λ k. NotRedefined x.log p.obj k x.frontier) same_snapshot (subst (λ k. NotRedefined x.log k q.snapshot x.frontier) same_obj m))))
+          × (has_abort x.commands ≡ false → others_populate (place + 1) y.obj x.commands ≡ false → NotRedefined x.log y.obj y.snapshot x.frontier → IsBuilding units y)) (sym same) (
+            subst (λ k. x.floor ≤ k) (sym same_snapshot) b.0,
+            λ a o m. on (b.1 a (subst (λ k. others_populate (place + 1) k x.commands ≡ false) same_obj o)
+                (subst (λ k. NotRedefined x.log p.obj k x.frontier) same_snapshot (subst (λ k. NotRedefined x.log k q.snapshot x.frontier) same_obj m))),
+          )
 
   -- A reply is told by a session that is free afterwards, and units of other objects than one are as they were.
   tells : (said : Reply) (units : Units) → told ≡ Some said
@@ -331,7 +328,7 @@ module _ (x : Scene) (r next : Round) (place : ℕ) (seat : Seat) (session : Ses
       → next.core.units ≡ units → next.core.born ≡ r.core.born
       → ((obj : ℕ) → anyone_populates obj x.commands ≡ false → (e : ℕ) → units obj e ≡ r.core.units obj e)
       → ((n obj scn : ℕ) → has_abort x.commands ≡ false → others_populate n obj x.commands ≡ false → WasPopulated x.before obj scn (told_so_far x.commands next.seats n) → NotRedefined x.log obj scn x.frontier
-          → (PopulatesNow next.core.sessions n obj → ⊥) → HasReadyUnits x.log next.core.units obj scn)
+      → (PopulatesNow next.core.sessions n obj → ⊥) → HasReadyUnits x.log next.core.units obj scn)
       → ((n : ℕ) (p : Population) → (n ≡ place → ⊥) → others_populate (n + 1) p.obj x.commands ≡ false → (e : ℕ) → units p.obj e ≡ r.core.units p.obj e)
       → ReplyUse x (place + 1) (told_so_far x.commands r.seats (place + 1)) hand.text said
       → UseIs x next.core next.seats
@@ -366,9 +363,9 @@ module _ (x : Scene) (r next : Round) (place : ℕ) (seat : Seat) (session : Ses
       → ReplyUse x (place + 1) (told_so_far x.commands r.seats (place + 1)) hand.text said → UseIs x next.core next.seats
   tells_plain said t plain units born sessions pops none met =
       tells said r.core.units t sessions pops units born (λ obj b e. refl)
-          (λ n obj scn a o w m d. subst (λ us. HasReadyUnits x.log us obj scn) (sym units)
-              (u.filled n obj scn a o (was_before said t n obj scn (plain_silent said plain obj) w) m (λ k. before n obj d k (cases_eq n (place + 1)))))
-          (λ n p d o e. refl) met
+      (λ n obj scn a o w m d. subst (λ us. HasReadyUnits x.log us obj scn) (sym units)
+      (u.filled n obj scn a o (was_before said t n obj scn (plain_silent said plain obj) w) m (λ k. before n obj d k (cases_eq n (place + 1)))))
+      (λ n p d o e. refl) met
     where
       before : (n obj : ℕ) → (PopulatesNow next.core.sessions n obj → ⊥) → PopulatesNow r.core.sessions n obj → (n ≡ place + 1) ⊎ (n ≡ place + 1 → ⊥) → ⊥
       before n obj d k (inl e) = none obj (subst (λ m. PopulatesNow r.core.sessions m obj) e k)
@@ -390,8 +387,8 @@ module _ (x : Scene) (r next : Round) (place : ℕ) (seat : Seat) (session : Ses
   alone : (said : Reply) → session ≡ Free → told ≡ Some said → next.core ≡ r.core → IsPlainReply x said → UseIs x next.core next.seats
   alone said free t same plain =
       tells_plain said t plain.0 (ap (λ (y : CoreState). y.units) same) (ap (λ (y : CoreState). y.born) same) (same_core_sessions free same)
-          (λ n obj d k. subst (λ (y : CoreState). PopulatesNow y.sessions n obj) (sym same) k) (free_before free)
-          (plain.1 (place + 1) (told_so_far x.commands r.seats (place + 1)) hand.text)
+      (λ n obj d k. subst (λ (y : CoreState). PopulatesNow y.sessions n obj) (sym same) k) (free_before free)
+      (plain.1 (place + 1) (told_so_far x.commands r.seats (place + 1)) hand.text)
 
   -- A scan begins, goes on, and ends.
   scan_begins : (select : Select) (table : Table) → session ≡ Free → told ≡ None → next.aborted ≡ false → next.core ≡ with_session r.core place (Scanning (new_scan select r.core.query table)) → UseIs x next.core next.seats
@@ -438,8 +435,8 @@ module _ (x : Scene) (r next : Round) (place : ℕ) (seat : Seat) (session : Ses
             let old = was.rows since w k in
             let ready = u.filled (place + 1) s.select.obj since k.no_abort k.alone w k.same (λ q. not_now s.select.obj q) in
             let g = (gathers r.core place s is.core is.precise at_s left).2 since old.0 (subst (λ l. HasReadyUnits l r.core.units s.select.obj since) (sym u.log) ready)
-                (subst (λ f. NotRedefined r.core.log s.select.obj since f) (sym u.frontier) (subst (λ l. NotRedefined l s.select.obj since x.frontier) (sym u.log) k.same))
-                (λ co. k.no_coarse (subst (λ l. CoarseWithin l x.born since x.frontier) u.log (subst (λ n. CoarseWithin r.core.log n since x.frontier) u.born (subst (λ f. CoarseWithin r.core.log r.core.born since f) u.frontier co)))) in
+            (subst (λ f. NotRedefined r.core.log s.select.obj since f) (sym u.frontier) (subst (λ l. NotRedefined l s.select.obj since x.frontier) (sym u.log) k.same))
+            (λ co. k.no_coarse (subst (λ l. CoarseWithin l x.born since x.frontier) u.log (subst (λ n. CoarseWithin r.core.log n since x.frontier) u.born (subst (λ f. CoarseWithin r.core.log r.core.born since f) u.frontier co)))) in
             (old.0, added since g old.1);
       }
         where
@@ -448,13 +445,13 @@ module _ (x : Scene) (r next : Round) (place : ℕ) (seat : Seat) (session : Ses
           added since g old =
               let least = subst (λ l. touched_rows l s.select.obj (s.extents + 1) s.scn since s.scn ≤ touched_rows l s.select.obj s.extents s.scn since s.scn + count_from_blocks (next_look r.core s) (rows_at r.core.log s.scn) (next_places s)) u.log g.least in
               let most = subst (λ l. touched_rows l s.select.obj s.extents s.scn since x.frontier + count_from_blocks (next_look r.core s) (rows_at r.core.log s.scn) (next_places s) ≤ touched_rows l s.select.obj (s.extents + 1) s.scn since x.frontier) u.log
-                  (subst (λ f. touched_rows r.core.log s.select.obj s.extents s.scn since f + count_from_blocks (next_look r.core s) (rows_at r.core.log s.scn) (next_places s) ≤ touched_rows r.core.log s.select.obj (s.extents + 1) s.scn since f) u.frontier g.most) in
+              (subst (λ f. touched_rows r.core.log s.select.obj s.extents s.scn since f + count_from_blocks (next_look r.core s) (rows_at r.core.log s.scn) (next_places s) ≤ touched_rows r.core.log s.select.obj (s.extents + 1) s.scn since f) u.frontier g.most) in
               record { least = omega (arith, least, old.least); most = omega (arith, most, old.most) }
 
   scan_ends : (s : Scan) → session ≡ Scanning s → request ≡ Asks (command.Select s.select) → told ≡ Some (scan_reply s) → s.table.extents ≤ s.extents → next.core ≡ with_session r.core place Free → UseIs x next.core next.seats
   scan_ends s is_s asks t whole effect =
       tells_plain (scan_reply s) t refl (ap (λ (y : CoreState). y.units) effect) (ap (λ (y : CoreState). y.born) effect) (session_now Free sessions)
-          (λ n obj d k. still_populates Free sessions n obj d k) (not_populating (Scanning s) is_s (λ p e. let k : Populating p ≡ Scanning s = e in cc)) met
+      (λ n obj d k. still_populates Free sessions n obj d k) (not_populating (Scanning s) is_s (λ p e. let k : Populating p ≡ Scanning s = e in cc)) met
     where
       sessions : next.core.sessions ≡ slice_set r.core.sessions place Free
       sessions = ap (λ (y : CoreState). y.sessions) effect
@@ -476,19 +473,19 @@ module _ (x : Scene) (r next : Round) (place : ℕ) (seat : Seat) (session : Ses
           let all : s.extents ≡ s.table.extents = omega arith in
           let k = u.scans place s at_s in
           subst (λ (z : Select). RowsUse x (place + 1) (told_so_far x.commands r.seats (place + 1)) z table s.scn s.col s.row) (sym same)
-              (subst (λ (y : Table). RowsUse x (place + 1) (told_so_far x.commands r.seats (place + 1)) s.select y s.scn s.col s.row) (sym table_is) (record {
-                plain = k.plain;
-                unpopulated = k.unpopulated;
-                rows = λ since w d. subst (λ n. RowsAreTouched x.log x.frontier s.select.obj n s.scn since s.row) all (k.rows since w d).1;
-              }))
+          (subst (λ (y : Table). RowsUse x (place + 1) (told_so_far x.commands r.seats (place + 1)) s.select y s.scn s.col s.row) (sym table_is) (record {
+            plain = k.plain;
+            unpopulated = k.unpopulated;
+            rows = λ since w d. subst (λ n. RowsAreTouched x.log x.frontier s.select.obj n s.scn since s.row) all (k.rows since w d).1;
+          }))
 
   -- A population ends.
   population_ends : (p : Population) → session ≡ Populating p → request ≡ Asks (command.Populate p.obj) → told ≡ Some (reply.Populated p.snapshot (installed_then p r.core.units)) → p.holds ≡ false → has_more p ≡ false
       → next.core ≡ record (with_session r.core place Free) { units = units_installed p r.core.units } → UseIs x next.core next.seats
   population_ends p is_p asks t released last effect =
       tells said (units_installed p r.core.units) t (session_now Free sessions) (λ n obj d k. still_populates Free sessions n obj d k) (ap (λ (y : CoreState). y.units) effect) (ap (λ (y : CoreState). y.born) effect)
-          (λ obj b e. installed_other p r.core.units obj e (not_this p.obj obj asks b)) filled
-          (λ n z d o e. installed_other p r.core.units z.obj e (λ f. not_others p.obj (n + 1) asks (subst (λ k. others_populate (n + 1) k x.commands ≡ false) f o) (λ g. d (omega arith)))) met
+      (λ obj b e. installed_other p r.core.units obj e (not_this p.obj obj asks b)) filled
+      (λ n z d o e. installed_other p r.core.units z.obj e (λ f. not_others p.obj (n + 1) asks (subst (λ k. others_populate (n + 1) k x.commands ≡ false) f o) (λ g. d (omega arith)))) met
     where
       said : Reply
       said = reply.Populated p.snapshot (installed_then p r.core.units)
@@ -516,13 +513,13 @@ module _ (x : Scene) (r next : Round) (place : ℕ) (seat : Seat) (session : Ses
           own : n ≡ place + 1 → obj ≡ p.obj → HasReadyUnits x.log (units_installed p r.core.units) obj scn
           own e f =
               let last_is : last_populated obj (told_so_far x.commands next.seats n) ≡ Some p.snapshot =
-                  ap (λ k. last_populated k (told_so_far x.commands next.seats n)) f ∙ ap (λ k. last_populated p.obj (told_so_far x.commands next.seats k)) e
-                  ∙ ap (last_populated p.obj) (told_here said t) ∙ last_more p.obj (told_so_far x.commands r.seats (place + 1)) (hand.text, said)
-                  ∙ ap (λ b. or_earlier (cond b (Some p.snapshot) None) (last_populated p.obj (told_so_far x.commands r.seats (place + 1)))) (spelled_populates hand.text p.obj text) in
+              ap (λ k. last_populated k (told_so_far x.commands next.seats n)) f ∙ ap (λ k. last_populated p.obj (told_so_far x.commands next.seats k)) e
+              ∙ ap (last_populated p.obj) (told_here said t) ∙ last_more p.obj (told_so_far x.commands r.seats (place + 1)) (hand.text, said)
+              ∙ ap (λ b. or_earlier (cond b (Some p.snapshot) None) (last_populated p.obj (told_so_far x.commands r.seats (place + 1)))) (spelled_populates hand.text p.obj text) in
               let scn_is : p.snapshot ≡ scn = was_some x.before obj scn p.snapshot (told_so_far x.commands next.seats n) last_is w in
               subst (λ k. HasReadyUnits x.log (units_installed p r.core.units) k scn) (sym f) (subst (λ k. HasReadyUnits x.log (units_installed p r.core.units) p.obj k) scn_is
-                  (ended a (subst (λ k. others_populate k p.obj x.commands ≡ false) e (subst (λ k. others_populate n k x.commands ≡ false) f o))
-                      (subst (λ k. NotRedefined x.log p.obj k x.frontier) (sym scn_is) (subst (λ k. NotRedefined x.log k scn x.frontier) f m))).1)
+              (ended a (subst (λ k. others_populate k p.obj x.commands ≡ false) e (subst (λ k. others_populate n k x.commands ≡ false) f o))
+              (subst (λ k. NotRedefined x.log p.obj k x.frontier) (sym scn_is) (subst (λ k. NotRedefined x.log k scn x.frontier) f m))).1)
 
           other : (obj ≡ p.obj → ⊥) → HasReadyUnits x.log (units_installed p r.core.units) obj scn
           other f = ready_stay x.log r.core.units (units_installed p r.core.units) obj scn (stay_by r.core.units (units_installed p r.core.units) obj (λ e. installed_other p r.core.units obj e f))
@@ -565,35 +562,37 @@ module _ (x : Scene) (r next : Round) (place : ℕ) (seat : Seat) (session : Ses
   session_use (Aborts free asks t b same) = subst (UseByAbort x next.core next.seats) (sym b) (aborts_use asks t same)
   session_use (Populates obj free asks t b begins) = subst (UseByAbort x next.core next.seats) (sym b)
       (same_units (Populating (new_population obj r.core.query begins.ticket begins.table)) t (ap (λ (y : CoreState). y.sessions) begins.effect) (ap (λ (y : CoreState). y.units) begins.effect) (ap (λ (y : CoreState). y.born) begins.effect)
-          (λ n o k d. none_before (Populating (new_population obj r.core.query begins.ticket begins.table)) (ap (λ (y : CoreState). y.sessions) begins.effect) (free_before free) n o d)
-          (λ p e. let same : p ≡ new_population obj r.core.query begins.ticket begins.table = cc in
-              subst (λ (z : Population). (x.floor ≤ z.snapshot)
-                  × (has_abort x.commands ≡ false → others_populate (place + 1) z.obj x.commands ≡ false → NotRedefined x.log z.obj z.snapshot x.frontier → IsBuilding r.core.units z)) (sym same)
-                  (u.floor, λ a o m. record {
-                    ended = λ extent l. absurd (omega arith);
-                    waiting = λ extent l k. absurd (omega arith);
-                    installed = refl;
-                    holding = λ h. refl;
-                    released = λ h. absurd (true≢false h);
-                  }))
-          (λ s e. let k : Scanning s ≡ Populating (new_population obj r.core.query begins.ticket begins.table) = e in absurd cc))
+      (λ n o k d. none_before (Populating (new_population obj r.core.query begins.ticket begins.table)) (ap (λ (y : CoreState). y.sessions) begins.effect) (free_before free) n o d)
+      (λ p e. let same : p ≡ new_population obj r.core.query begins.ticket begins.table = cc in
+      subst (λ (z : Population). (x.floor ≤ z.snapshot)
+      × (has_abort x.commands ≡ false → others_populate (place + 1) z.obj x.commands ≡ false → NotRedefined x.log z.obj z.snapshot x.frontier → IsBuilding r.core.units z)) (sym same) (
+        u.floor,
+        λ a o m. record {
+          ended = λ extent l. absurd (omega arith);
+          waiting = λ extent l k. absurd (omega arith);
+          installed = refl;
+          holding = λ h. refl;
+          released = λ h. absurd (true≢false h);
+        },
+      ))
+      (λ s e. let k : Scanning s ≡ Populating (new_population obj r.core.query begins.ticket begins.table) = e in absurd cc))
   session_use (Registers p is_p asks t b holds left effect) = subst (UseByAbort x next.core next.seats) (sym b)
       (population_on p (record p { registered = p.registered + 1 }) (with_unit p.obj p.registered (Some (loading p)) r.core.units) is_p asks t refl refl
-          (ap (λ (y : CoreState). y.sessions) effect) (ap (λ (y : CoreState). y.units) effect) (ap (λ (y : CoreState). y.born) effect)
-          (λ o e d. unit_of_other p.obj p.registered (Some (loading p)) r.core.units o e d) (λ k. (goes_on r.core.units p k).0 holds left))
+      (ap (λ (y : CoreState). y.sessions) effect) (ap (λ (y : CoreState). y.units) effect) (ap (λ (y : CoreState). y.born) effect)
+      (λ o e d. unit_of_other p.obj p.registered (Some (loading p)) r.core.units o e d) (λ k. (goes_on r.core.units p k).0 holds left))
   session_use (Releases p is_p asks t b holds all effect) = subst (UseByAbort x next.core next.seats) (sym b)
       (population_on p (record p { holds = false }) r.core.units is_p asks t refl refl
-          (ap (λ (y : CoreState). y.sessions) effect) (ap (λ (y : CoreState). y.units) effect) (ap (λ (y : CoreState). y.born) effect)
-          (λ o e d. refl) (λ k. (goes_on r.core.units p k).1 all))
+      (ap (λ (y : CoreState). y.sessions) effect) (ap (λ (y : CoreState). y.units) effect) (ap (λ (y : CoreState). y.born) effect)
+      (λ o e d. refl) (λ k. (goes_on r.core.units p k).1 all))
   session_use (ReadsOn p is_p asks t b released left effect) = subst (UseByAbort x next.core next.seats) (sym b)
       (population_on p (record p { blocks = p.blocks + 1; read = p.read ++ next_block r.core p }) r.core.units is_p asks t refl refl
-          (ap (λ (y : CoreState). y.sessions) effect) (ap (λ (y : CoreState). y.units) effect) (ap (λ (y : CoreState). y.born) effect)
-          (λ o e d. refl) (λ k. building_read r.core.units p (p.blocks + 1) (p.read ++ next_block r.core p) k))
+      (ap (λ (y : CoreState). y.sessions) effect) (ap (λ (y : CoreState). y.units) effect) (ap (λ (y : CoreState). y.born) effect)
+      (λ o e d. refl) (λ k. building_read r.core.units p (p.blocks + 1) (p.read ++ next_block r.core p) k))
   session_use (EndsExtent p is_p asks t b released whole more effect) = subst (UseByAbort x next.core next.seats) (sym b)
       (population_on p (record p { extent = p.extent + 1; blocks = 0; read = []; installed = installed_then p r.core.units }) (units_installed p r.core.units) is_p asks t refl refl
-          (ap (λ (y : CoreState). y.sessions) effect) (ap (λ (y : CoreState). y.units) effect) (ap (λ (y : CoreState). y.born) effect)
-          (λ o e d. installed_other p r.core.units o e d)
-          (λ k. (goes_on r.core.units p k).2 released (is.core.populations place p (subst (At r.core.sessions place) is_p at.does)).extent more))
+      (ap (λ (y : CoreState). y.sessions) effect) (ap (λ (y : CoreState). y.units) effect) (ap (λ (y : CoreState). y.born) effect)
+      (λ o e d. installed_other p r.core.units o e d)
+      (λ k. (goes_on r.core.units p k).2 released (is.core.populations place p (subst (At r.core.sessions place) is_p at.does)).extent more))
   session_use (EndsPopulation p is_p asks t b released whole last speaks effect) = subst (UseByAbort x next.core next.seats) (sym b) (population_ends p is_p asks t released last effect)
   session_use (BeginsScan select table free asks t b defined columns types effect) = subst (UseByAbort x next.core next.seats) (sym b) (scan_begins select table free t b effect)
   session_use (Gathers s is_s asks t b left effect) = subst (UseByAbort x next.core next.seats) (sym b) (scan_goes s is_s t left effect)

@@ -1,5 +1,5 @@
 -- What a turn is, once all tests of the rule are made: the cases that every law of turns goes through.
-use Rattle.std.proofs.Common.{◌≡◌, ℕ, ◌+◌, ◌<◌, ◌≤◌, Bool, true, false, List, [], ◌∷◌, ◌++◌, length, Option, Some, None}
+use Rattle.std.proofs.Common.{◌≡◌, ℕ, ◌+◌, ◌<◌, ◌≤◌, Bool, true, false, List, [], ◌++◌, Option, Some, None}
 use Rattle.std.specs.Prelude.{slice_set}
 use Rattle.adg_base.specs.declared.command.Command.TheVariants as command
 use Rattle.adg_base.specs.declared.command.Select.{Select}
@@ -11,7 +11,7 @@ use Rattle.core_rules.specs.declared.event.Event.{Event}
 use Rattle.core_rules.specs.declared.event.Event.TheVariants as event
 use Rattle.core_rules.specs.declared.event.CoreAnswer.TheVariants.{Moved, Said}
 use Rattle.core_rules.specs.State.{CoreState, Population, Scan, Session, Free, Populating, Scanning, At, is_flushing, held_once_more, held_once_less}
-use Rattle.core_rules.specs.Populations.{with_session, IsFresh, new_population, population_refusal, loading, with_unit, next_block, units_installed, installed_then, has_more, session_then}
+use Rattle.core_rules.specs.Populations.{with_session, IsFresh, new_population, population_refusal, loading, with_unit, next_block, units_installed, installed_then, has_more}
 use Rattle.core_rules.specs.Scans.{scan_refusal, new_scan, scan_then, scan_reply}
 use Rattle.core_rules.specs.Restarts.{restarted}
 use Rattle.core_rules.specs.Step.{Happens}

@@ -1,5 +1,5 @@
 -- Each turn is one of the cases of View, and each event that the rule picks can happen.
-use Rattle.std.proofs.Common.{◌≡◌, ℕ, zero, suc, ◌+◌, ◌-◌, ◌<◌, ◌≤◌, Bool, true, false, cond, ◌&&◌, ◌||◌, List, [], ◌∷◌, ◌++◌, length, Option, Some, None, ◌⊎◌, inl, inr, refl, sym, ap, ◌∙◌, subst, arith, true≢false}
+use Rattle.std.proofs.Common.{◌≡◌, ℕ, ◌+◌, ◌-◌, ◌<◌, ◌≤◌, Bool, true, false, cond, ◌&&◌, ◌||◌, List, [], ◌++◌, length, Option, Some, None, ◌⊎◌, inl, inr, refl, sym, ap, ◌∙◌, subst, arith}
 use Rattle.std.specs.Prelude.{slice_get, nat_lt, nat_le, ◌==◌}
 use Rattle.std.specs.List.{list_all}
 use Rattle.std.proofs.lemmas.Bool.{ltb-true, ltb-false, leb-true, leb-false, eqb-true, eqb-false, or_parts, cond_both}
@@ -14,7 +14,7 @@ use Rattle.adg_model.specs.Query.{has_columns, has_types}
 use Rattle.core_rules.specs.declared.event.Event.{Event}
 use Rattle.core_rules.specs.declared.event.Event.TheVariants as event
 use Rattle.core_rules.specs.declared.event.CoreAnswer.{CoreAnswer}
-use Rattle.core_rules.specs.declared.event.CoreAnswer.TheVariants.{NotReady, Moved, Said}
+use Rattle.core_rules.specs.declared.event.CoreAnswer.TheVariants.{Moved, Said}
 use Rattle.core_rules.specs.State.{CoreState, Population, Scan, Session, Free, Populating, Scanning, At, is_flushing, held_once_more, held_once_less}
 use Rattle.core_rules.specs.Populations.{IsSession, with_session, new_population, population_refusal, loading, with_unit, next_block, Installs, units_installed, installed_then, has_more, session_then, answer_then}
 use Rattle.core_rules.specs.Scans.{scan_refusal, new_scan, scan_then, EndsScan as Ends, scan_reply}
@@ -148,7 +148,7 @@ scanned_turn c place select answer told new at t (inl h) =
     let own = own_place c place b.can.place Free Free at b.can.free in
     let none : told ≡ None = t ∙ ap said_by h.0 in
     inr (BeginsScan select b.table refl refl none (ap is_abort_told none) b.defined b.columns b.types
-        (b.effect ∙ ap (λ n. with_session c n (Scanning (new_scan select c.query b.table))) own.0))
+    (b.effect ∙ ap (λ n. with_session c n (Scanning (new_scan select c.query b.table))) own.0))
 scanned_turn c place select answer told new at t (inr h) =
     let some : told ≡ Some h.reply = t ∙ ap said_by h.says in
     inr (Refused h.reply refl h.refused.refusal (record {
@@ -197,8 +197,8 @@ populating_turn c place p move told new at a = by_holds p.holds refl a
         let q = same_population p r.population own.1 in
         let none : told ≡ None = k.2 ∙ ap said_by h.0 in
         Registers p refl refl none (ap is_abort_told none) u l (r.effect
-            ∙ ap (λ n. record (with_session c n (Populating (record r.population { registered = r.population.registered + 1 }))) { units = with_unit r.population.obj r.population.registered (Some (loading r.population)) c.units }) own.0
-            ∙ ap (λ (x : Population). record (with_session c place (Populating (record x { registered = x.registered + 1 }))) { units = with_unit x.obj x.registered (Some (loading x)) c.units }) q)
+        ∙ ap (λ n. record (with_session c n (Populating (record r.population { registered = r.population.registered + 1 }))) { units = with_unit r.population.obj r.population.registered (Some (loading r.population)) c.units }) own.0
+        ∙ ap (λ (x : Population). record (with_session c place (Populating (record x { registered = x.registered + 1 }))) { units = with_unit x.obj x.registered (Some (loading x)) c.units }) q)
 
     releases : p.holds ≡ true → p.table.extents ≤ p.registered → Acts c (Makes (event.PopRelease (place + 1))) move told new → SessionIs c place (Populating p) (Asks (command.Populate p.obj)) told (is_abort_told told) new
     releases u l k =
@@ -208,8 +208,8 @@ populating_turn c place p move told new at a = by_holds p.holds refl a
         let q = same_population p r.population own.1 in
         let none : told ≡ None = k.2 ∙ ap said_by h.0 in
         Releases p refl refl none (ap is_abort_told none) u l (r.effect
-            ∙ ap (λ n. record (with_session c n (Populating (record r.population { holds = false }))) { quiesce = held_once_less c.quiesce }) own.0
-            ∙ ap (λ (x : Population). record (with_session c place (Populating (record x { holds = false }))) { quiesce = held_once_less c.quiesce }) q)
+        ∙ ap (λ n. record (with_session c n (Populating (record r.population { holds = false }))) { quiesce = held_once_less c.quiesce }) own.0
+        ∙ ap (λ (x : Population). record (with_session c place (Populating (record x { holds = false }))) { quiesce = held_once_less c.quiesce }) q)
 
     reads : p.holds ≡ false → p.blocks < 16 → Acts c (Makes (event.PopRead (place + 1))) move told new → SessionIs c place (Populating p) (Asks (command.Populate p.obj)) told (is_abort_told told) new
     reads u l k =
@@ -219,8 +219,8 @@ populating_turn c place p move told new at a = by_holds p.holds refl a
         let q = same_population p r.population own.1 in
         let none : told ≡ None = k.2 ∙ ap said_by h.0 in
         ReadsOn p refl refl none (ap is_abort_told none) u l (r.effect
-            ∙ ap (λ n. with_session c n (Populating (record r.population { blocks = r.population.blocks + 1; read = r.population.read ++ next_block c r.population }))) own.0
-            ∙ ap (λ (x : Population). with_session c place (Populating (record x { blocks = x.blocks + 1; read = x.read ++ next_block c x }))) q)
+        ∙ ap (λ n. with_session c n (Populating (record r.population { blocks = r.population.blocks + 1; read = r.population.read ++ next_block c r.population }))) own.0
+        ∙ ap (λ (x : Population). with_session c place (Populating (record x { blocks = x.blocks + 1; read = x.read ++ next_block c x }))) q)
 
     ends : p.holds ≡ false → 16 ≤ p.blocks → Acts c (Makes (event.PopEnd (place + 1))) move told new → SessionIs c place (Populating p) (Asks (command.Populate p.obj)) told (is_abort_told told) new
     ends u l k = by_more (has_more p) refl
@@ -254,7 +254,7 @@ populating_turn c place p move told new at a = by_holds p.holds refl a
             let said : k.0 ≡ Said (reply.Populated p.snapshot count) = says ∙ ap (λ b. cond b Moved (Said (reply.Populated p.snapshot count))) m in
             let some : told ≡ Some (reply.Populated p.snapshot count) = k.2 ∙ ap said_by said in
             EndsPopulation p refl refl some (ap is_abort_told some) u l m (record { event = event.PopEnd (place + 1); happens = subst (λ x. Installs c (place + 1) x new) said h; text = text_is })
-                (effect ∙ ap (λ b. record (with_session c place (cond b (Populating (record p { extent = p.extent + 1; blocks = 0; read = []; installed = count })) Free)) { units = units_installed p c.units }) m)
+            (effect ∙ ap (λ b. record (with_session c place (cond b (Populating (record p { extent = p.extent + 1; blocks = 0; read = []; installed = count })) Free)) { units = units_installed p c.units }) m)
 
     by_holds : (b : Bool) → p.holds ≡ b
         → Acts c (Makes (cond b (cond (nat_lt p.registered p.table.extents) (event.PopRegister (place + 1)) (event.PopRelease (place + 1))) (cond (nat_lt p.blocks 16) (event.PopRead (place + 1)) (event.PopEnd (place + 1))))) move told new
@@ -298,8 +298,8 @@ scanning_turn c place s move told new at a = cond_both (nat_lt s.extents s.table
         let said : k.0 ≡ Said (scan_reply s) = h.says ∙ ap Said reply_is in
         let some : told ≡ Some (scan_reply s) = k.2 ∙ ap said_by said in
         EndsScan s refl refl some (ap is_abort_told some) l
-            (record { event = event.ScanEnd (place + 1); happens = record { reply = scan_reply s; refused = subst (λ x. Ends c (place + 1) x new) reply_is r; says = refl }; text = λ text t. (place, s, is, t) })
-            (r.effect ∙ ap (λ n. with_session c n Free) own.0)
+        (record { event = event.ScanEnd (place + 1); happens = record { reply = scan_reply s; refused = subst (λ x. Ends c (place + 1) x new) reply_is r; says = refl }; text = λ text t. (place, s, is, t) })
+        (r.effect ∙ ap (λ n. with_session c n Free) own.0)
 
 -- A session does what its request at hand asks for.
 session_turn : (c : CoreState) (place : ℕ) (session : Session) (request : Request) (move : Option Move) (told : Option Reply) (new : CoreState) → At c.sessions place session
@@ -310,13 +310,13 @@ session_turn c place (Populating p) request move told new at i a =
     let f : request ≡ Asks (command.Populate p.obj) = cc in
     let k : Acts c (populate_act c (place + 1) p.obj (slice_get c.sessions place)) move told new = subst (λ q. Acts c (request_act c place (Some q)) move told new) f a in
     inr (subst (λ q. SessionIs c place (Populating p) q told (is_abort_told told) new) (sym f)
-        (populating_turn c place p move told new at (subst (λ o. Acts c (populate_act c (place + 1) p.obj o) move told new) at k)))
+    (populating_turn c place p move told new at (subst (λ o. Acts c (populate_act c (place + 1) p.obj o) move told new) at k)))
 session_turn c place (Scanning s) request move told new at i a =
     let e : Some request ≡ Some (Asks (command.Select s.select)) = i in
     let f : request ≡ Asks (command.Select s.select) = cc in
     let k : Acts c (select_act (place + 1) s.select (slice_get c.sessions place)) move told new = subst (λ q. Acts c (request_act c place (Some q)) move told new) f a in
     inr (subst (λ q. SessionIs c place (Scanning s) q told (is_abort_told told) new) (sym f)
-        (scanning_turn c place s move told new at (subst (λ o. Acts c (select_act (place + 1) s.select o) move told new) at k)))
+    (scanning_turn c place s move told new at (subst (λ o. Acts c (select_act (place + 1) s.select o) move told new) at k)))
 
 -- A turn in which something is done, by its actor.
 pub data MoveIs (r next : Round) : Type 0 where
@@ -368,10 +368,10 @@ actor_is workers number = by_zero (number == 0) refl
     by_worker : (number ≡ 0 → ⊥) → (number == 0) ≡ false → (b : Bool) → nat_le number workers ≡ b → IsActor workers number
     by_worker n z true u = let l : number ≤ workers = leb-true number workers u in
         Middle (number - 1) (omega (arith, n)) (omega (arith, n)) (ap (λ b. cond b Coordinator (cond (nat_le number workers) (WorkerAt (number - 1)) (SessionAt (number - workers - 1)))) z
-            ∙ ap (λ b. cond b (WorkerAt (number - 1)) (SessionAt (number - workers - 1))) u)
+        ∙ ap (λ b. cond b (WorkerAt (number - 1)) (SessionAt (number - workers - 1))) u)
     by_worker n z false u = let l : workers < number = leb-false number workers u in
         Last (number - workers - 1) (omega arith) (ap (λ b. cond b Coordinator (cond (nat_le number workers) (WorkerAt (number - 1)) (SessionAt (number - workers - 1)))) z
-            ∙ ap (λ b. cond b (WorkerAt (number - 1)) (SessionAt (number - workers - 1))) u)
+        ∙ ap (λ b. cond b (WorkerAt (number - 1)) (SessionAt (number - workers - 1))) u)
 
     by_zero : (b : Bool) → (number == 0) ≡ b → IsActor workers number
     by_zero true z = First (ap (λ b. cond b Coordinator (cond (nat_le number workers) (WorkerAt (number - 1)) (SessionAt (number - workers - 1)))) z)
@@ -403,10 +403,10 @@ turns_move schedule r move next is t = by_actor (actor_is (length r.core.workers
     by_actor : IsActor (length r.core.workers) (number_at schedule (actors r) r.turns) → (act_at schedule r r.turns ≡ Rests) ⊎ MoveIs r next
     by_actor (First e) = back Coordinator e
         (crew_is r next (coordinator_act r.core) t.told (crew_turn r.core (coordinator_act r.core) move t.told next.core (coordinator_does r.core is.core) (acts_as Coordinator e))
-            (seats_are ∙ ap (λ a. seats_after a t.told r.seats) e) aborted_is)
+        (seats_are ∙ ap (λ a. seats_after a t.told r.seats) e) aborted_is)
     by_actor (Middle worker known n e) = back (WorkerAt worker) e
         (crew_is r next (worker_act r.core worker) t.told (crew_turn r.core (worker_act r.core worker) move t.told next.core (worker_does r.core is.core worker known) (acts_as (WorkerAt worker) e))
-            (seats_are ∙ ap (λ a. seats_after a t.told r.seats) e) aborted_is)
+        (seats_are ∙ ap (λ a. seats_after a t.told r.seats) e) aborted_is)
     by_actor (Last place n e) = back (SessionAt place) e
         (session_is r next place move t.told is (acts_as (SessionAt place) e) (seats_are ∙ ap (λ a. seats_after a t.told r.seats) e) aborted_is)
 

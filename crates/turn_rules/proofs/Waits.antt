@@ -1,24 +1,23 @@
 -- Where all actors rest the round is over.
-use Rattle.std.proofs.Common.{◌≡◌, ℕ, zero, suc, ◌+◌, ◌-◌, ◌<◌, ◌≤◌, min, Bool, true, false, cond, ◌&&◌, ◌||◌, List, [], ◌∷◌, length, map, Option, Some, None, ◌⊎◌, inl, inr, refl, sym, ap, ◌∙◌, subst, arith, true≢false}
+use Rattle.std.proofs.Common.{◌≡◌, ℕ, zero, suc, ◌+◌, ◌-◌, ◌<◌, ◌≤◌, Bool, true, false, cond, ◌&&◌, List, [], ◌∷◌, length, map, Option, Some, None, ◌⊎◌, inl, inr, refl, sym, ap, ◌∙◌, subst, arith, true≢false}
 use Rattle.std.specs.Prelude.{slice_get, nat_lt, nat_le, ◌==◌}
-use Rattle.std.specs.List.{AllByRecursion, list_all, list_any, count_by}
+use Rattle.std.specs.List.{list_all, list_any}
 use Rattle.std.proofs.lemmas.Bool.{ltb-false, le-leb, lt-leb, eq-eqb, ne_eqb, and_from, and_cases, or_right}
 use Rattle.std.proofs.lemmas.List.{length-map}
 use Rattle.adg_base.specs.declared.command.Command.TheVariants as command
 use Rattle.adg_base.specs.declared.answer.Reply.{Reply}
 use Rattle.adg_base.specs.declared.answer.Reply.TheVariants as reply
-use Rattle.adg_base.specs.declared.log.LogEntry.{LogEntry}
 use Rattle.adg_model.specs.Log.{least}
 use Rattle.core_rules.specs.declared.event.Event.{Event}
 use Rattle.core_rules.specs.declared.event.Event.TheVariants as event
 use Rattle.core_rules.specs.State.{CoreState, Worker, Quiesce, Idle, Shared, Flushing, Collected, Stage, Unclaimed, Claimed, Finished, Link, Session, Free, Populating, Scanning, At, share_of, limit, is_flushing, is_unclaimed, is_finished, holds_back, holders}
 use Rattle.core_rules.specs.Parts.{QuiesceIs}
 use Rattle.core_rules.specs.Invariant.{Invariant}
-use Rattle.core_rules.proofs.Lists.{at_map, at_exists, at_within, at_has, Has, has_map_back, any_has_back, contains, any_false, each_from, each_contains, contains_at, is_true}
+use Rattle.core_rules.proofs.Lists.{at_map, at_exists, at_within, at_has, Has, has_map_back, any_has_back, contains, any_false, is_true}
 use Rattle.core_rules.proofs.Once.{count_none}
-use Rattle.turn_rules.specs.Round.{Request, Asks, Garbles, Seat, at_hand, is_through, Round, actors, is_over}
-use Rattle.turn_rules.specs.Picks.{Act, Rests, Makes, Replies, MakesAndReplies, Coordinator, WorkerAt, SessionAt, actor_of, cursor_of, link_event, link_act, has_unclaimed, are_finished, is_idle, least_progress, flushing_act, calm_act, coordinator_act, below_entry, mined_through, share_act, worker_act, population_event, populate_act, scan_event, select_act, request_act, session_act, act_of}
-use Rattle.turn_rules.specs.Standing.{IsFor, RoundIs}
+use Rattle.turn_rules.specs.Round.{Request, Asks, Garbles, Seat, at_hand, is_through}
+use Rattle.turn_rules.specs.Picks.{Act, Rests, Makes, Replies, MakesAndReplies, Coordinator, WorkerAt, SessionAt, actor_of, cursor_of, link_event, link_act, has_unclaimed, are_finished, is_idle, least_progress, flushing_act, calm_act, below_entry, mined_through, share_act, population_event, populate_act, scan_event, select_act, request_act, session_act, act_of}
+use Rattle.turn_rules.specs.Standing.{IsFor}
 use Rattle.turn_rules.specs.Laws.{NobodyWaits}
 use Rattle.turn_rules.proofs.Guards.{holder_has_cursor, none_from}
 use Rattle.turn_rules.proofs.Viewed.{same_request}
@@ -181,9 +180,9 @@ nobody_waits r is rests = or_right r.aborted (list_all is_through r.seats && (r.
     least_is = least_above (map (λ (w : Worker). w.progress) r.core.workers) r.core.frontier
         (subst (λ k. 0 < k) (sym (length-map r.core.workers (λ (w : Worker). w.progress))) v.manned)
         (λ n h.
-            let b = has_map_back (λ (w : Worker). w.progress) r.core.workers n h in
-            let p = at_has r.core.workers b.0 b.1 in
-            subst (λ k. r.core.frontier ≤ k) b.2 (progressed p.0 b.0 p.1))
+        let b = has_map_back (λ (w : Worker). w.progress) r.core.workers n h in
+        let p = at_has r.core.workers b.0 b.1 in
+        subst (λ k. r.core.frontier ≤ k) b.2 (progressed p.0 b.0 p.1))
 
     -- nobody keeps publication back
     idle : r.core.quiesce ≡ Idle

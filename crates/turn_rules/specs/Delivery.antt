@@ -1,5 +1,5 @@
 -- A delivery as a whole: how it is run, and what that promises.
-use Rattle.std.specs.Prelude.{◌≡◌, ℕ, ◌+◌, ◌<◌, ◌≤◌, true, List, ◌∷◌, ◌++◌, length, Option}
+use Rattle.std.specs.Prelude.{◌≡◌, ℕ, ◌≤◌, true, List, ◌∷◌, ◌++◌, length, Option}
 use Rattle.std.specs.List.{AllByRecursion}
 use Rattle.adg_base.specs.declared.command.CommandText.{CommandText}
 use Rattle.adg_base.specs.declared.answer.Lines.{Lines}
@@ -14,7 +14,6 @@ use Rattle.core_rules.specs.ColumnUse.{told_by_units, ColumnUse, UnitsAfter}
 use Rattle.turn_rules.specs.Round.{Seat, Round, is_over, AreSeats, opening_round}
 use Rattle.turn_rules.specs.Turns.{Plays, moves_of}
 use Rattle.turn_rules.specs.Telling.{lines_of}
-use Rattle.turn_rules.specs.Measure.{turns_left}
 
 -- Redo is received, and then the turns of the rule are taken until the round is over; its lines are these.
 pub record Delivers (c : CoreState) (d : CheckedDelivery) (turns : List (Option Move)) (new : CoreState) (lines : Lines) : Type 0 where

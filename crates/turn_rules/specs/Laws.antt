@@ -1,13 +1,12 @@
 -- The laws of the turn rule, each the promise of a function that does nothing.
-use Rattle.std.specs.Prelude.{◌≡◌, ◌≢◌, ℕ, ◌+◌, ◌<◌, ◌≤◌, true, false, List, [], ◌∷◌, length, Option}
+use Rattle.std.specs.Prelude.{◌≡◌, ℕ, ◌+◌, ◌<◌, ◌≤◌, true, List, ◌∷◌, length, Option}
 use Rattle.std.specs.List.{AllByRecursion}
-use Rattle.adg_base.specs.declared.command.CommandText.{CommandText}
 use Rattle.adg_base.specs.declared.answer.Lines.{Lines}
 use Rattle.adg_base.specs.declared.answer.Reply.{Reply}
 use Rattle.adg_model.specs.declared.delivery.CheckedDelivery.{CheckedDelivery}
 use Rattle.adg_model.specs.Transcript.{IsLegal}
 use Rattle.core_rules.specs.declared.event.Event.{Event}
-use Rattle.core_rules.specs.State.{CoreState, Free}
+use Rattle.core_rules.specs.State.{CoreState}
 use Rattle.core_rules.specs.Applying.{Receives}
 use Rattle.core_rules.specs.Step.{Guard}
 use Rattle.core_rules.specs.Runs.{Move, Leads}
@@ -15,10 +14,9 @@ use Rattle.core_rules.specs.ColumnUse.{told_by_units, ColumnUse, UnitsAfter}
 use Rattle.turn_rules.specs.Round.{Seat, Round, actors, is_over, AreSeats, opening_round}
 use Rattle.turn_rules.specs.Picks.{Rests, Makes, MakesAndReplies, actor_of, act_of, act_at}
 use Rattle.turn_rules.specs.Turns.{TakesTurn, Plays, moves_of}
-use Rattle.turn_rules.specs.Telling.{lines_of}
 use Rattle.turn_rules.specs.Measure.{measure, turns_left}
 use Rattle.turn_rules.specs.Standing.{RoundIs}
-use Rattle.turn_rules.specs.Delivery.{Delivers, IsOfSession, IsReady, IsTaken, Promises}
+use Rattle.turn_rules.specs.Delivery.{Delivers, IsReady, IsTaken, Promises}
 use Rattle.turn_rules.specs.Earlier.{Past, born_by_lines, told_by_lines, UnitsAreTold}
 
 -- An event that the rule picks can happen: it is never answered NotReady.

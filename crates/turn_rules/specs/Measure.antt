@@ -1,5 +1,5 @@
 -- The measure of a round: how much is left to do. Each act makes it fall.
-use Rattle.std.specs.Prelude.{ℕ, ◌+◌, ◌-◌, ◌*◌, Bool, if◌then◌else◌, List, [], ◌∷◌, length, map}
+use Rattle.std.specs.Prelude.{ℕ, ◌+◌, ◌-◌, ◌*◌, if◌then◌else◌, List, [], ◌∷◌, length, map}
 use Rattle.std.specs.List.{range_with_len}
 use Rattle.adg_base.specs.declared.log.LogEntry.{LogEntry}
 use Rattle.core_rules.specs.Share.{share}

@@ -109,7 +109,7 @@ share_act c worker (Some w) =
 abbrev pub worker_act : CoreState → ℕ → Act
 worker_act c worker =
     link_act (length c.workers) (worker + 1) (cursor_of (worker + 1) c.links)
-        (if is_flushing c.quiesce && has_unclaimed c.links then Makes (event.Claim (worker + 1)) else share_act c worker (slice_get c.workers worker))
+    (if is_flushing c.quiesce && has_unclaimed c.links then Makes (event.Claim (worker + 1)) else share_act c worker (slice_get c.workers worker))
 
 -- A population registers its units, lets publication go on, and reads the blocks of each extent and ends it.
 abbrev pub population_event : (session : ℕ) → Population → Event

@@ -1,5 +1,5 @@
 -- A round: the core, a seat for each session, and whose turn it is.
-use Rattle.std.specs.Prelude.{◌≡◌, ℕ, ◌+◌, Bool, false, nat_le, ◌==◌, ◌&&◌, ◌||◌, List, [], length, slice_get, Option, Some, None}
+use Rattle.std.specs.Prelude.{◌≡◌, ℕ, ◌+◌, Bool, false, nat_le, ◌==◌, ◌&&◌, ◌||◌, List, [], length, slice_get, Option}
 use Rattle.std.specs.List.{list_all, AllZip}
 use Rattle.adg_base.specs.declared.command.Command.{Command}
 use Rattle.adg_base.specs.declared.command.CommandText.{CommandText}

@@ -1,7 +1,7 @@
 -- What holds of a round at each turn.
-use Rattle.std.specs.Prelude.{◌≡◌, ℕ, true, List, length, Option, Some}
+use Rattle.std.specs.Prelude.{◌≡◌, ℕ, true, length, Option, Some}
 use Rattle.adg_base.specs.declared.command.Command.TheVariants as command
-use Rattle.core_rules.specs.State.{CoreState, Population, Scan, Session, Free, Populating, Scanning, At}
+use Rattle.core_rules.specs.State.{Session, Free, Populating, Scanning, At}
 use Rattle.core_rules.specs.Invariant.{Invariant, Precise}
 use Rattle.turn_rules.specs.Round.{Request, Asks, Seat, at_hand, Round}
 

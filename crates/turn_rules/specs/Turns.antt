@@ -1,5 +1,5 @@
 -- What a turn makes of a round, and the turns of a whole round.
-use Rattle.std.specs.Prelude.{◌≡◌, ℕ, ◌+◌, Bool, true, false, ◌||◌, List, [], ◌∷◌, ◌++◌, slice_get, slice_set, Option, Some, None}
+use Rattle.std.specs.Prelude.{◌≡◌, ℕ, ◌+◌, Bool, false, ◌||◌, List, [], ◌∷◌, ◌++◌, slice_get, slice_set, Option, Some, None}
 use Rattle.std.specs.List.{filter_map}
 use Rattle.adg_base.specs.declared.answer.Reply.{Reply}
 use Rattle.adg_model.specs.Transcript.{is_aborted}
