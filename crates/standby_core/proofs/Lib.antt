@@ -1,0 +1,11 @@
+pub mod Each
+pub mod Kept
+pub mod Seats
+pub mod HeldLinks
+pub mod Shards
+pub mod Store
+pub mod Applied
+pub mod Areas
+pub mod Mined
+pub mod Started
+pub mod Received

@@ -1,0 +1,16 @@
+//! The core of the standby: the log's shares, the row store, the journal, the flush, column units,
+//! populations and scans, and what each event makes of them.
+#![tactic(auto)]
+
+pub mod flush;
+pub mod link;
+mod looks;
+mod receive;
+pub mod session;
+pub mod share;
+pub mod standby;
+mod start;
+mod work;
+pub mod worker;
+
+pub use standby::Core;
