@@ -2,5 +2,7 @@
 #![tactic(auto)]
 
 mod rewinding;
+#[cfg(test)]
+mod tests;
 
 pub use rewinding::{complete, rewind};

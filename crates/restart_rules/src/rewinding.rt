@@ -5,11 +5,10 @@ ghost use Rattle.restart_rules.specs.Rewind.{first_above};
 use adg_base::log::LogEntry;
 use adg_base::number::Scn;
 
-/// The place of the first entry with an SCN above `q`, the length where there is none. It looks at as
-/// many entries as the length has binary digits.
+/// The place of the first entry with an SCN above `q`, the length where there is none, in entries
+/// whose SCNs do not fall. It looks at as many entries as the length has binary digits.
 pub fn rewind(entries: &[LogEntry], q: Scn) -> usize
-    requires { IsNonDecreasingBy (λ e. e.scn) entries.now }
-    ensures { result ≡ first_above q entries.now }
+    ensures { IsNonDecreasingBy (λ e. e.scn) entries.now → result ≡ first_above q entries.now }
 {
     entries.partition_point(|entry| entry.scn <= q)
 }

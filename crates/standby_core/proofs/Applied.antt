@@ -42,13 +42,17 @@ module _ (core : Core) (c : CoreState) (h : IsState core c) where
       let k : None ≡ Some r.0 = sym none ∙ r.1 in
       absurd cc
 
+  -- a shard has the number of its place
+  pub shard_number : (n : ℕ) (s : OwnShard) → At core.shards.items n s → s.number ≡ n
+  shard_number n s at = (each_right (ShowsShard c.log) core.shards.items c.shards h.shows.shards n s at).2.number
+
   -- the share of a worker
   pub share_is : (worker : ℕ) (x : OwnWorker) (w : Worker) → ShowsWorker core.worker_count c.log worker x w → x.share ≡ share_of c worker
   share_is worker x w s = s.share ∙ ap (λ n. share n worker c.log) h.shows.worker_count
 
   -- an event that can't happen
   pub not_ready_apply : (worker : ℕ) → (CanApply c worker → ⊥) → HasStepped core c (event.Apply worker) NotReady
-  not_ready_apply worker no = record { next = c; steps = inl (refl, no, refl); shows = h.shows }
+  not_ready_apply worker never = record { next = c; steps = inl (refl, never, refl); shows = h.shows }
 
   module _ (worker : ℕ) (x : OwnWorker) (at : At core.workers.items worker x) where
     pub none_left : slice_get x.share x.applied ≡ None → CanApply c worker → ⊥
@@ -71,8 +75,8 @@ module _ (core : Core) (c : CoreState) (h : IsState core c) where
       pub has_shard : shard_of_vector e.vector ≡ None → ⊥
       has_shard none =
           let own : is_shared_by (length c.workers) worker (shard_of_vector e.vector) ≡ true = share_own (length c.workers) worker c.log e (at_contains (share_of c worker) x.applied e in_share) in
-          let no : is_shared_by (length c.workers) worker None ≡ true = subst (λ o. is_shared_by (length c.workers) worker o ≡ true) none own in
-          absurd (true≢false (sym no))
+          let never : is_shared_by (length c.workers) worker None ≡ true = subst (λ o. is_shared_by (length c.workers) worker o ≡ true) none own in
+          absurd (true≢false (sym never))
 
       -- it is in the log, at a position that a number of 64 bits can follow
       pub entry_within : Contains c.log e

@@ -69,17 +69,17 @@ takes_nothing what area no_note no_begin = record {
 
 -- the addresses and the mark of one transaction after it was set
 set_places : (old new : List Held) (txn : ℕ) (held : Held) → Sets old new txn (Some held) → (t : ℕ) → ((t ≡ txn) × (places_of new t ≡ held.places)) ⊎ (places_of new t ≡ places_of old t)
-set_places old new txn held sets t = by (nat_eq t txn) refl (sets t)
+set_places old new txn held sets t = by (nat_eq txn t) refl (sets t)
   where
-    by : (b : Bool) → nat_eq t txn ≡ b → held_of new t ≡ (if b then Some held else held_of old t) → ((t ≡ txn) × (places_of new t ≡ held.places)) ⊎ (places_of new t ≡ places_of old t)
-    by true k e = inl (eqb-true t txn k, ap places_in e)
+    by : (b : Bool) → nat_eq txn t ≡ b → held_of new t ≡ (if b then Some held else held_of old t) → ((t ≡ txn) × (places_of new t ≡ held.places)) ⊎ (places_of new t ≡ places_of old t)
+    by true k e = inl (sym (eqb-true txn t k), ap places_in e)
     by false k e = inr (ap places_in e)
 
 set_begun : (old new : List Held) (txn : ℕ) (held : Held) → Sets old new txn (Some held) → (t : ℕ) → ((t ≡ txn) × (is_begun new t ≡ held.begun)) ⊎ (is_begun new t ≡ is_begun old t)
-set_begun old new txn held sets t = by (nat_eq t txn) refl (sets t)
+set_begun old new txn held sets t = by (nat_eq txn t) refl (sets t)
   where
-    by : (b : Bool) → nat_eq t txn ≡ b → held_of new t ≡ (if b then Some held else held_of old t) → ((t ≡ txn) × (is_begun new t ≡ held.begun)) ⊎ (is_begun new t ≡ is_begun old t)
-    by true k e = inl (eqb-true t txn k, ap begun_in e)
+    by : (b : Bool) → nat_eq txn t ≡ b → held_of new t ≡ (if b then Some held else held_of old t) → ((t ≡ txn) × (is_begun new t ≡ held.begun)) ⊎ (is_begun new t ≡ is_begun old t)
+    by true k e = inl (sym (eqb-true txn t k), ap begun_in e)
     by false k e = inr (ap begun_in e)
 
 set_there : (old new : List Held) (txn : ℕ) (held : Held) → Sets old new txn (Some held) → held_of new txn ≡ Some held

@@ -1,4 +1,5 @@
 pub mod Each
+pub mod Exits
 pub mod Kept
 pub mod Seats
 pub mod HeldLinks
@@ -6,6 +7,10 @@ pub mod Shards
 pub mod Store
 pub mod Applied
 pub mod Areas
+pub mod Taken
 pub mod Mined
 pub mod Started
 pub mod Received
+pub mod Deals
+pub mod Stepped
+pub mod Laws

@@ -39,7 +39,7 @@ use Rattle.standby_core.proofs.Kept.{with_workers, with_ddl}
 -- a list none of which has an SCN up to one, and one all of which have SCNs above it
 none_upto : (scn : ℕ) (ns : List DdlNode) → AllByRecursion (λ (m : DdlNode). scn < m.scn) ns → queue.upto (λ (n : DdlNode). n.scn) scn ns ≡ []
 none_upto scn [] h = refl
-none_upto scn (n ∷ ns) h = ap (λ (b : Bool). cond b (n ∷ queue.upto (λ (m : DdlNode). m.scn) scn ns) (queue.upto (λ (m : DdlNode). m.scn) scn ns)) (lt-leb scn n.scn h.0) ∙ none_upto scn ns h.1
+none_upto scn (n ∷ ns) h = ap (λ (b : Bool). cond b (n ∷ queue.upto (λ (m : DdlNode). m.scn) scn ns) (queue.upto (λ (m : DdlNode). m.scn) scn ns)) (lt-leb n.scn scn h.0) ∙ none_upto scn ns h.1
 
 all_above : (scn : ℕ) (ns : List DdlNode) → AllByRecursion (λ (m : DdlNode). scn < m.scn) ns → queue.above (λ (n : DdlNode). n.scn) scn ns ≡ ns
 all_above scn [] h = refl
@@ -89,10 +89,10 @@ ddl_is_noted e (Some (mined.Ddl o)) ddl h = entered_is (record { scn = e.scn; ob
 
 module _ (core : Core) (c : CoreState) (h : IsState core c) where
   pub not_ready_mine : (worker : ℕ) → (CanMine c worker → ⊥) → HasStepped core c (event.Mine worker) NotReady
-  not_ready_mine worker no = record { next = c; steps = inl (refl, no, refl); shows = h.shows }
+  not_ready_mine worker never = record { next = c; steps = inl (refl, never, refl); shows = h.shows }
 
   pub not_ready_raise : (worker through : ℕ) → (CanRaise c worker through → ⊥) → HasStepped core c (event.Raise worker through) NotReady
-  not_ready_raise worker through no = record { next = c; steps = inl (refl, no, refl); shows = h.shows }
+  not_ready_raise worker through never = record { next = c; steps = inl (refl, never, refl); shows = h.shows }
 
   module _ (worker : ℕ) (x : OwnWorker) (at : At core.workers.items worker x) where
     r : (w : Worker) × At c.workers worker w × ShowsWorker core.worker_count c.log worker x w
@@ -228,11 +228,11 @@ module _ (core : Core) (c : CoreState) (h : IsState core c) where
     own_rest = ap (λ n. drop n x.share) r.2.mined ∙ ap (drop r.0.mined) (share_is core c h worker x r.0 r.2)
 
     pub not_mined : (through : ℕ) → (AllByRecursion (λ (e : LogEntry). through < e.scn) (drop x.mined x.share) → ⊥) → CanRaise c worker through → ⊥
-    not_mined through no can =
+    not_mined through never can =
         let same : can.was ≡ r.0 = sym (at_same c.workers worker r.0 can.was r.1 can.found) in
         let all : AllByRecursion (λ (e : LogEntry). through < e.scn) (drop r.0.mined (share_of c worker)) =
             subst (λ (w : Worker). AllByRecursion (λ (e : LogEntry). through < e.scn) (drop w.mined (share_of c worker))) same can.mined in
-        no (subst (AllByRecursion (λ (e : LogEntry). through < e.scn)) (sym own_rest) all)
+        never (subst (AllByRecursion (λ (e : LogEntry). through < e.scn)) (sym own_rest) all)
 
     -- the SCNs of its share do not fall
     pub raise_moves : (through : ℕ) (ws : Vec OwnWorker Global) → x.progress < through → through ≤ core.frontier → AllByRecursion (λ (e : LogEntry). through < e.scn) (drop x.mined x.share)

@@ -1,19 +1,24 @@
 -- A shard of the row store that takes the next entry of its own stands for the log still.
-use Rattle.std.proofs.Common.{◌≡◌, ℕ, ◌+◌, ◌<◌, ◌≤◌, max, Bool, true, false, cond, nat_lt, List, [], ◌∷◌, ◌++◌, length, take, drop, filter, Option, Some, None, ◌⊎◌, inl, inr, refl, sym, ap, ◌∙◌, subst, arith, true≢false, append_assoc}
+use Rattle.std.proofs.Common.{◌≡◌, ℕ, ◌+◌, ◌<◌, ◌≤◌, ◌^◌, max, Bool, true, false, cond, nat_lt, List, [], ◌∷◌, ◌++◌, length, take, drop, filter, Option, Some, None, ◌⊎◌, inl, inr, refl, sym, ap, ◌∙◌, subst, arith, true≢false, append_assoc}
 use Rattle.std.proofs.lemmas.List.{take-append-drop}
 use Rattle.std.specs.List.{Contains, AllByRecursion}
-use Rattle.std.proofs.lemmas.Bool.{eqb-true, eq-eqb, ltb-true, ltb-false}
+use Rattle.std.proofs.lemmas.Bool.{eqb-true, eq-eqb, lt-ltb, le-ltb, cases_lt}
 use Rattle.adg_base.specs.Address.{Place}
 use Rattle.adg_base.specs.Shard.{shard_of_vector}
 use Rattle.adg_base.specs.declared.log.LogEntry.{LogEntry}
 use Rattle.adg_model.specs.Sound.{IsLog}
+use Rattle.row_blocks.specs.declared.shard.Shard.{Shard as OwnShard}
+use Rattle.row_blocks.specs.declared.shard.Applied.{Applied}
+use Rattle.row_blocks.specs.declared.shard.Applied.TheVariants.{Already, Done}
+use Rattle.row_blocks.specs.Shard.{shown}
 use Rattle.row_blocks.specs.declared.version.End.{End}
 use Rattle.row_blocks.specs.declared.version.Version.{Version}
-use Rattle.row_blocks.specs.Stands.{Kept, IsSlot, same_shard, is_own, own_below, is_open, StandsFor, HasApplied, IsNext, SameKept, StandsForMore}
+use Rattle.row_blocks.specs.Stands.{Kept, IsSlot, same_shard, is_own, own_below, is_open, StandsFor, HasApplied, IsNext, SameKept, StandsForMore, after_entry}
 use Rattle.row_blocks.specs.Versions.{versions_of, end_of}
 use Rattle.row_blocks.specs.Law.{commits_at}
 use Rattle.row_blocks.specs.Pick.{picked_by}
 use Rattle.core_rules.specs.State.{At}
+use Rattle.standby_core.specs.Entries.{TakesEntry}
 use Rattle.core_rules.proofs.Lists.{at_contains, contains_at, at_take_back, take_next, each_from}
 use Rattle.core_rules.proofs.FactsOrder.{positions}
 
@@ -67,3 +72,23 @@ next_entry kept log frontier e is within own new closes = record {
         let here : e.pos ≡ at.0 = positions log frontier is at.0 e at.1 in
         let less : k.0 < at.0 = b.1 in
         closes z (at_contains log k.0 z b.0) (own_shard kept.number (shard_of_vector z.vector) o) (omega arith)
+
+-- what a call of a shard's makes of an entry
+pub takes : (s t : OwnShard) (e : LogEntry) (r : Applied) → r ≡ cond (nat_lt e.pos s.applied) Already Done → (r ≡ Already → t ≡ s)
+    → (r ≡ Done → e.pos + 1 < 2 ^ 64 → SameKept (shown t) (after_entry (shown s) e)) → (r ≡ Done → e.pos + 1 < 2 ^ 64 → StandsForMore (shown s) e (shown t)) → t.number ≡ s.number → TakesEntry s e t
+takes s t e r is already done stands number = record {
+  number = number;
+  applied = λ few. by (cases_lt e.pos s.applied) few;
+  already = λ l. already (is_already l);
+  stands = λ l few. stands (is_done l) few;
+}
+  where
+    is_already : e.pos < s.applied → r ≡ Already
+    is_already l = is ∙ ap (λ (b : Bool). cond b Already Done) (lt-ltb e.pos s.applied l)
+
+    is_done : s.applied ≤ e.pos → r ≡ Done
+    is_done l = is ∙ ap (λ (b : Bool). cond b Already Done) (le-ltb e.pos s.applied l)
+
+    by : (e.pos < s.applied) ⊎ (s.applied ≤ e.pos) → e.pos + 1 < 2 ^ 64 → t.applied ≡ max s.applied (e.pos + 1)
+    by (inl l) few = let same : t.applied ≡ s.applied = ap (λ (x : OwnShard). x.applied) (already (is_already l)) in omega arith
+    by (inr l) few = let same : t.applied ≡ e.pos + 1 = (done (is_done l) few).applied in omega arith

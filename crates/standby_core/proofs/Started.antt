@@ -5,6 +5,7 @@ use Rattle.std.proofs.lemmas.List.{length-replicate}
 use Rattle.adg_base.specs.Shard.{shard_of_unit}
 use Rattle.adg_base.specs.Area.{Held}
 use Rattle.adg_base.specs.declared.log.LogEntry.{LogEntry}
+use Rattle.std.specs.List.{IsDistinct}
 use Rattle.adg_journal.specs.Area.{IsArea}
 use Rattle.row_blocks.specs.declared.shard.Shard.{Shard as OwnShard}
 use Rattle.row_blocks.specs.Shard.{shown}
@@ -34,6 +35,7 @@ own_idle = record { share = []; applied = 0; mined = 0; progress = 0; area = [];
 
 -- an area that holds nothing
 no_area : IsArea []
+unfolding IsDistinct
 no_area = record { once = tt; each = λ txn. tt }
 
 nothing_held : SameHeld [] []

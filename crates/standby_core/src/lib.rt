@@ -5,6 +5,7 @@
 pub mod flush;
 pub mod link;
 mod looks;
+pub mod law;
 mod receive;
 pub mod session;
 pub mod share;

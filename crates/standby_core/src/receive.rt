@@ -46,11 +46,13 @@ fn deal_whole(
     ensures err { OnErr result (workers.new ≡ workers.old) }
 {
     let counts = counts_of(alloc, workers)?;
-    let dealt = deal(alloc, workers, count, entries);
-    if dealt.is_err() {
-        cut_back(workers, &counts);
+    match deal(alloc, workers, count, entries) {
+        Ok(()) => Ok(()),
+        Err(memory) => {
+            cut_back(workers, counts.as_slice());
+            Err(memory)
+        }
     }
-    dealt
 }
 
 /// How many entries each share has.

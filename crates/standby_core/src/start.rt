@@ -1,4 +1,4 @@
-ghost use Rattle.std.specs.Prelude.{◌≡◌, ◌<◌, ◌+◌, [], None, replicate, IfOk};
+ghost use Rattle.std.specs.Prelude.{◌≡◌, ◌<◌, ◌+◌, [], None, replicate, IfOk, OnOk};
 ghost use Rattle.core_rules.specs.State.{opening};
 ghost use Rattle.core_rules.specs.Invariant.{Invariant, Precise};
 ghost use Rattle.standby_core.specs.Parts.{AreEmpty};
@@ -20,8 +20,8 @@ impl Core {
     /// The core of so many workers and sessions before anything is received.
     pub fn start(alloc: Global, workers: u8, sessions: u8) -> Result<Core, Memory>
         ensures shows { IfOk result (λ core. Shows core (opening workers sessions)) }
-        ensures invariant { 0 < workers → Invariant (opening workers sessions) }
-        ensures precise { 0 < workers → Precise (opening workers sessions) }
+        ensures invariant { OnOk result (0 < workers → Invariant (opening workers sessions)) }
+        ensures precise { OnOk result (0 < workers → Precise (opening workers sessions)) }
     {
         Ok(Core {
             alloc,

@@ -1,4 +1,4 @@
-ghost use Rattle.std.specs.Prelude.{◌≡◌, ◌+◌, ◌<◌, List, length, drop, Some, IfOk, OnOk, OnErr, MatchBool};
+ghost use Rattle.std.specs.Prelude.{◌≡◌, ◌+◌, ◌<◌, List, length, drop, slice_get, Some, None, IfOk, OnOk, OnErr, MatchBool, MatchOption};
 ghost use Rattle.std.specs.List.{Contains, AllByRecursion};
 ghost use Rattle.std.specs.List.Sorted.{IsNonDecreasingBy};
 ghost use Rattle.adg_base.specs.Shard.{shard_of_vector};
@@ -36,17 +36,18 @@ impl Core {
         ensures ok { IfOk result (λ answer. (c : CoreState) → IsState self.old c → HasStepped self.new c (event.Apply worker) answer) }
         ensures err { OnErr result ((c : CoreState) → IsState self.old c → Shows self.new c) }
     {
-        let Some(worker) = self.workers.get_mut(usize::from(worker)) else {
+        let index = usize::from(worker);
+        let Some(own) = self.workers.get(index) else {
             return Ok(CoreAnswer::NotReady);
         };
-        let Some(entry) = worker.share.as_slice().get(worker.applied) else {
+        let Some(entry) = own.next_to_apply() else {
             return Ok(CoreAnswer::NotReady);
         };
         let Some(number) = shard_of(&entry.vector) else {
             return Ok(CoreAnswer::NotReady);
         };
         apply_at(&mut self.shards[usize::from(number)], entry)?;
-        worker.applied += 1;
+        self.workers[index].applied += 1;
         Ok(CoreAnswer::Moved)
     }
 
@@ -56,13 +57,14 @@ impl Core {
         ensures ok { IfOk result (λ answer. (c : CoreState) → IsState self.old c → StandsFor dictionary.now c.log → HasStepped self.new c (event.Mine worker) answer) }
         ensures err { OnErr result ((c : CoreState) → IsState self.old c → Shows self.new c) }
     {
-        let Some(worker) = self.workers.get_mut(usize::from(worker)) else {
+        let index = usize::from(worker);
+        let Some(own) = self.workers.get(index) else {
             return Ok(CoreAnswer::NotReady);
         };
-        if worker.mined >= worker.applied {
+        if own.mined >= own.applied {
             return Ok(CoreAnswer::NotReady);
         }
-        worker.mine(dictionary, &mut self.ddl)?;
+        self.workers[index].mine(dictionary, &mut self.ddl)?;
         Ok(CoreAnswer::Moved)
     }
 
@@ -71,18 +73,32 @@ impl Core {
         requires { HasState self.old }
         ensures { (c : CoreState) → IsState self.old c → HasStepped self.new c (event.Raise worker through) result }
     {
-        let Some(worker) = self.workers.get_mut(usize::from(worker)) else {
+        let index = usize::from(worker);
+        let Some(own) = self.workers.get(index) else {
             return CoreAnswer::NotReady;
         };
-        if through <= worker.progress || self.frontier < through || !worker.has_mined(through) {
+        if through <= own.progress {
             return CoreAnswer::NotReady;
         }
-        worker.progress = through;
+        if self.frontier < through {
+            return CoreAnswer::NotReady;
+        }
+        if !own.has_mined(through) {
+            return CoreAnswer::NotReady;
+        }
+        self.workers[index].progress = through;
         CoreAnswer::Moved
     }
 }
 
 impl Worker {
+    /// The next entry of the share that is not applied.
+    fn next_to_apply(&self) -> Option<&LogEntry>
+        ensures { MatchOption result (slice_get self.now.share self.now.applied ≡ None) (λ e. At self.now.share self.now.applied e.now) }
+    {
+        self.share.as_slice().get(self.applied)
+    }
+
     /// Mines the next entry.
     fn mine(&mut self, dictionary: &Dictionary, ddl: &mut DdlTable) -> Result<(), Memory>
         requires left { self.old.mined < length self.old.share }
@@ -95,7 +111,7 @@ impl Worker {
         let entry = &self.share.as_slice()[self.mined];
         let (scn, pos) = (entry.scn, entry.pos);
         let what = mine(entry, dictionary);
-        self.take(scn, pos, what, ddl)?;
+        self.take(scn, pos, &what, ddl)?;
         self.mined += 1;
         Ok(())
     }
@@ -106,41 +122,40 @@ impl Worker {
         &mut self,
         scn: Scn,
         pos: Pos,
-        what: Option<Mined>,
+        what: &Option<Mined>,
         ddl: &mut DdlTable,
     ) -> Result<(), Memory>
         requires area { IsArea self.old.area }
         requires behind { IsBehind scn pos self.old.ends }
-        ensures ok { OnOk result (TakesMined scn pos what self.old self.new ddl.old ddl.new) }
+        ensures ok { OnOk result (TakesMined scn pos what.now self.old self.new ddl.old ddl.new) }
         ensures err { OnErr result (StaysSame self.old self.new × (ddl.new ≡ ddl.old)) }
     {
         match what {
-            Some(Mined::Begin { txn }) => self.area.begin(txn),
-            Some(Mined::Note { txn, addr }) => self.area.note(txn, addr),
+            Some(Mined::Begin { txn }) => self.area.begin(*txn),
+            Some(Mined::Note { txn, addr }) => self.area.note(*txn, *addr),
             Some(Mined::End {
                 txn,
                 flag,
                 committed,
             }) => {
-                let complete = self.area.end(txn);
-                let kind = kind_of(flag, committed);
+                let complete = self.area.end(*txn);
+                let kind = kind_of(*flag, *committed);
                 self.ends.enter(Node {
                     scn,
                     pos,
-                    txn,
+                    txn: *txn,
                     complete,
                     kind,
                 })
             }
-            Some(Mined::Ddl { obj }) => ddl.enter(scn, obj),
+            Some(Mined::Ddl { obj }) => ddl.enter(scn, *obj),
             None => Ok(()),
         }
     }
 
     /// Whether every entry of the share up to an SCN is mined.
     fn has_mined(&self, through: Scn) -> bool
-        requires { IsNonDecreasingBy (λ (e : Entry). e.scn) self.now.share }
-        ensures { MatchBool result (AllByRecursion (λ (e : Entry). through < e.scn) (drop self.now.mined self.now.share))
+        ensures { IsNonDecreasingBy (λ (e : Entry). e.scn) self.now.share → MatchBool result (AllByRecursion (λ (e : Entry). through < e.scn) (drop self.now.mined self.now.share))
             (AllByRecursion (λ (e : Entry). through < e.scn) (drop self.now.mined self.now.share) → ⊥) }
     {
         match self.share.as_slice().get(self.mined) {

@@ -1,0 +1,4 @@
+use Rattle.standby_core.proofs.standby.Core.raise.Goals as goal
+
+pub returns : goal.returns
+returns c = ?
