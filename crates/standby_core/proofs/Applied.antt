@@ -1,7 +1,9 @@
 -- A worker applies the next entry of its share.
-use Rattle.std.proofs.Common.{◌≡◌, ℕ, ◌+◌, ◌<◌, ◌≤◌, ◌^◌, max, true, false, List, length, Option, Some, None, ◌⊎◌, inl, inr, refl, sym, ap, ◌∙◌, subst, arith, true≢false, Vec, Global, is_some}
+use Rattle.std.proofs.Common.{◌≡◌, ℕ, ◌+◌, ◌<◌, ◌≤◌, ◌^◌, max, true, false, List, length, get_or, Option, Some, None, ◌⊎◌, inl, inr, refl, sym, ap, ◌∙◌, subst, arith, true≢false, Vec, Global, is_some}
 use Rattle.std.specs.Prelude.{slice_get, slice_set}
 use Rattle.std.specs.List.{Contains}
+use Rattle.std.specs.List.Sorted.{IsNonDecreasingBy}
+use Rattle.std.proofs.lemmas.Option.{slice_get-get_or}
 use Rattle.std.proofs.lemmas.Bool.{cases_lt}
 use Rattle.std.proofs.lemmas.List.{length-set}
 use Rattle.adg_base.specs.Shard.{shard_of_vector}
@@ -14,9 +16,9 @@ use Rattle.core_rules.specs.declared.event.CoreAnswer.TheVariants.{NotReady, Mov
 use Rattle.core_rules.specs.Share.{share, is_shared_by}
 use Rattle.core_rules.specs.State.{CoreState, Worker, Shard, At, share_of}
 use Rattle.core_rules.specs.Applying.{CanApply, Applies}
-use Rattle.core_rules.proofs.Lists.{at_within, at_exists, at_contains, contains_at, at_same}
+use Rattle.core_rules.proofs.Lists.{at_within, at_exists, at_contains, contains_at, at_same, filter_order}
 use Rattle.core_rules.proofs.Shares.{share_log, share_own}
-use Rattle.core_rules.proofs.FactsOrder.{positions}
+use Rattle.core_rules.proofs.FactsOrder.{positions, rises}
 use Rattle.core_rules.proofs.Whole.{next_closes_shard}
 use Rattle.standby_core.specs.declared.standby.Core.{Core}
 use Rattle.standby_core.specs.declared.worker.Worker.{Worker as OwnWorker}
@@ -42,13 +44,40 @@ module _ (core : Core) (c : CoreState) (h : IsState core c) where
       let k : None ≡ Some r.0 = sym none ∙ r.1 in
       absurd cc
 
-  -- a shard has the number of its place
-  pub shard_number : (n : ℕ) (s : OwnShard) → At core.shards.items n s → s.number ≡ n
-  shard_number n s at = (each_right (ShowsShard c.log) core.shards.items c.shards h.shows.shards n s at).2.number
-
   -- the share of a worker
   pub share_is : (worker : ℕ) (x : OwnWorker) (w : Worker) → ShowsWorker core.worker_count c.log worker x w → x.share ≡ share_of c worker
   share_is worker x w s = s.share ∙ ap (λ n. share n worker c.log) h.shows.worker_count
+
+  -- so many workers
+  pub workers_count : length core.workers.items ≡ core.worker_count
+  workers_count = h.shows.workers.same_length ∙ sym h.shows.worker_count
+
+  -- there are 64 shards
+  pub shards_count : length core.shards.items ≡ 64
+  shards_count =
+      let count : length c.shards ≡ 64 = h.invariant.shards.count in
+      let same : length core.shards.items ≡ length c.shards = h.shows.shards.same_length in
+      omega arith
+
+  -- the SCNs of a share do not fall
+  pub share_rises : (worker : ℕ) (x : OwnWorker) → At core.workers.items worker x → IsNonDecreasingBy (λ (e : LogEntry). e.scn) x.share
+  share_rises worker x at =
+      let r = worker_there worker x at in
+      subst (IsNonDecreasingBy (λ (e : LogEntry). e.scn)) (sym (share_is worker x r.0 r.2)) (rising (share_of c worker) (λ i j e f l at_e at_f.
+          let o = filter_order (λ (z : LogEntry). is_shared_by (length c.workers) worker (shard_of_vector z.vector)) c.log i j e f l at_e at_f in
+          let less : o.0 < o.1 = o.4 in
+          rises c.log c.frontier h.invariant.log o.0 o.1 e f (omega arith) o.2 o.3))
+    where
+      rising : (es : List LogEntry) → ((i j : ℕ) (e f : LogEntry) → i < j → At es i e → At es j f → e.scn ≤ f.scn) → IsNonDecreasingBy (λ (e : LogEntry). e.scn) es
+      rising es each i j d below within = by_order (cases_lt i j)
+        where
+          by_order : (i < j) ⊎ (j ≤ i) → (get_or es i d).scn ≤ (get_or es j d).scn
+          by_order (inl l) = each i j (get_or es i d) (get_or es j d) l (slice_get-get_or es i d (omega arith)) (slice_get-get_or es j d within)
+          by_order (inr l) = let same : i ≡ j = omega arith in subst (λ k. (get_or es i d).scn ≤ (get_or es k d).scn) same (omega arith)
+
+  -- a shard has the number of its place
+  pub shard_number : (n : ℕ) (s : OwnShard) → At core.shards.items n s → s.number ≡ n
+  shard_number n s at = (each_right (ShowsShard c.log) core.shards.items c.shards h.shows.shards n s at).2.number
 
   -- an event that can't happen
   pub not_ready_apply : (worker : ℕ) → (CanApply c worker → ⊥) → HasStepped core c (event.Apply worker) NotReady
@@ -83,11 +112,11 @@ module _ (core : Core) (c : CoreState) (h : IsState core c) where
       entry_within = share_log (length c.workers) worker c.log e (at_contains (share_of c worker) x.applied e in_share)
 
       -- where the entry is applied the core shows the state that the event makes
-      pub apply_moves : (number : ℕ) (s t : OwnShard) (ws : Vec OwnWorker Global) (ss : Vec OwnShard Global) → core.received < 2 ^ 64
+      pub apply_moves : (number : ℕ) (s t : OwnShard) (ws : Vec OwnWorker Global) (ss : Vec OwnShard Global)
           → shard_of_vector e.vector ≡ Some number → At core.shards.items number s → TakesEntry s e t
           → ws.items ≡ slice_set core.workers.items worker (record x { applied = x.applied + 1 }) → ss.items ≡ slice_set core.shards.items number t
           → HasStepped (record core { workers = ws; shards = ss }) c (event.Apply worker) Moved
-      apply_moves number s t ws ss few own at_s takes ws_is ss_is = record {
+      apply_moves number s t ws ss own at_s takes ws_is ss_is = record {
         next = record c { workers = slice_set c.workers worker new_w; shards = slice_set c.shards number new_s };
         steps = inr (refl, record {
           was = r.0;
@@ -126,7 +155,7 @@ module _ (core : Core) (c : CoreState) (h : IsState core c) where
               let i = contains_at c.log e entry_within in
               let p : e.pos ≡ i.0 = positions c.log c.frontier h.invariant.log i.0 e i.1 in
               let l : i.0 < length c.log = at_within c.log i.0 e i.1 in
-              let k : core.received ≡ length c.log = h.shows.received in
+              let k : length c.log < 2 ^ 64 = h.shows.fits in
               omega arith
 
           stands : (e.pos < s.applied) ⊎ (s.applied ≤ e.pos) → StandsFor (shown t) c.log rs.0.floor

@@ -22,11 +22,11 @@ IsSame n x y = y ≡ x
 
 pub same_lists : (xs ys : List Worker) → EachAt IsSame xs ys → ys ≡ xs
 same_lists [] [] h = refl
-same_lists [] (y ∷ ys) h = let e : 0 ≡ length ys + 1 = h.same_length in absurd (omega arith)
-same_lists (x ∷ xs) [] h = let e : length xs + 1 ≡ 0 = h.same_length in absurd (omega arith)
+same_lists [] (y ∷ ys) h = let e : 0 ≡ suc (length ys) = h.same_length in absurd (omega arith)
+same_lists (x ∷ xs) [] h = let e : suc (length xs) ≡ 0 = h.same_length in absurd (omega arith)
 same_lists (x ∷ xs) (y ∷ ys) h =
     let first : y ≡ x = h.each 0 x y refl refl in
-    let e : length xs + 1 ≡ length ys + 1 = h.same_length in
+    let e : suc (length xs) ≡ suc (length ys) = h.same_length in
     let rest : ys ≡ xs = same_lists xs ys (record { same_length = omega arith; each = λ n u v at_u at_v. h.each (suc n) u v at_u at_v }) in
     ap (λ l. y ∷ l) rest ∙ ap (λ z. z ∷ xs) first
 

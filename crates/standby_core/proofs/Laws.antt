@@ -68,7 +68,7 @@ flush_before_publish core new c next t scn h publishes shows commits above upto 
 count_from : {X : Type 0} (p : X → Bool) (from at : ℕ) (xs : List X) → ((n : ℕ) (x : X) → At xs n x → p x ≡ nat_le from (n + at)) → from ≤ at + length xs
     → count_by p xs + (from - at) ≡ length xs
 count_from p from at [] h l = omega arith
-count_from p from at (x ∷ xs) h l = by_place (cases_lt at from)
+count_from {X = X} p from at (x ∷ xs) h l = by_place (cases_lt at from) (λ k. count_from p from (at + 1) xs later k)
   where
     first : p x ≡ nat_le from at
     first = let e : 0 + at ≡ at = omega arith in subst (λ n. p x ≡ nat_le from n) e (h 0 x refl)
@@ -79,15 +79,17 @@ count_from p from at (x ∷ xs) h l = by_place (cases_lt at from)
     counted : count_by p (x ∷ xs) ≡ cond (p x) 1 0 + count_by p xs
     counted = sum_by-cons (λ (y : X). cond (p y) 1 0) x xs
 
-    by_place : (at < from) ⊎ (from ≤ at) → count_by p (x ∷ xs) + (from - at) ≡ length (x ∷ xs)
-    by_place (inl b) =
+    by_place : (at < from) ⊎ (from ≤ at) → (from ≤ at + 1 + length xs → count_by p xs + (from - (at + 1)) ≡ length xs) → count_by p (x ∷ xs) + (from - at) ≡ length (x ∷ xs)
+    by_place (inl b) ih =
         let none : cond (p x) 1 0 ≡ 0 = ap (λ (b : Bool). cond b 1 0) (first ∙ lt-leb from at b) in
-        let rest = count_from p from (at + 1) xs later (omega arith) in
-        omega arith
-    by_place (inr b) =
+        let long : from ≤ at + suc (length xs) = l in
+        let rest = ih (omega arith) in
+        omega (arith, counted)
+    by_place (inr b) ih =
         let one : cond (p x) 1 0 ≡ 1 = ap (λ (b : Bool). cond b 1 0) (first ∙ le-leb from at b) in
-        let rest = count_from p from (at + 1) xs later (omega arith) in
-        omega arith
+        let long : from ≤ at + suc (length xs) = l in
+        let rest = ih (omega arith) in
+        omega (arith, counted)
 
 -- a stage that is not claimed
 free_stage : (x : OwnStage) (l : Stage) (collected : List Collected) → l ≡ stage_with collected x → ((actor cursor : ℕ) → x ≡ Claimed actor cursor → ⊥) → (state.is_unclaimed l ≡ true) ⊎ (state.is_finished l ≡ true)
@@ -115,7 +117,10 @@ flush_ends core c through h flushing free =
         free_stage x.0.stage l.stage x.2.collected x.2.stage (λ actor cursor e. free actor at.0 (h.shows.flush.numbers.held actor at.0 cursor x.0 x.1 e))
 
     tests : (n : ℕ) (l : Link) → At c.links n l → state.is_unclaimed l.stage ≡ nat_le core.flush.claimed (n + 0)
-    tests n l at = let x = there n l at in same_unclaimed x.0.stage l.stage x.2.collected x.2.stage ∙ h.shows.flush.numbers.claimed n x.0 x.1
+    tests n l at =
+        let x = there n l at in
+        let e : n ≡ n + 0 = omega arith in
+        subst (λ m. state.is_unclaimed l.stage ≡ nat_le core.flush.claimed m) e (same_unclaimed x.0.stage l.stage x.2.collected x.2.stage ∙ h.shows.flush.numbers.claimed n x.0 x.1)
 
     count : count_by (λ (l : Link). state.is_unclaimed l.stage) c.links * (length c.workers + 34) + 1 ≡ (length core.flush.links.items - core.flush.claimed) * (core.worker_count + 34) + 1
     count =

@@ -1,7 +1,11 @@
 -- A worker mines the next entry that it has applied, and raises its progress.
-use Rattle.std.proofs.Common.{◌≡◌, ℕ, ◌+◌, ◌<◌, ◌≤◌, Bool, true, false, cond, List, [], ◌∷◌, ◌++◌, length, take, drop, filter, Option, Some, None, ◌⊎◌, inl, inr, refl, sym, ap, ◌∙◌, subst, arith, true≢false, Vec, Global}
-use Rattle.std.specs.Prelude.{slice_get, slice_set, nat_le, nat_lt, option_to_list}
+use Rattle.std.proofs.Common.{◌≡◌, ℕ, zero, suc, ◌+◌, ◌-◌, ◌<◌, ◌≤◌, get_or, is_lt, nat_cmp, Bool, true, false, cond, List, [], ◌∷◌, ◌++◌, length, take, drop, drop-cons, filter, Option, Some, None, ◌⊎◌, inl, inr, refl, sym, ap, ◌∙◌, subst, arith, true≢false, Vec, Global}
+use Rattle.std.specs.Prelude.{slice_get, slice_set, nat_le, nat_lt, option_to_list, MatchBool}
 use Rattle.std.specs.List.{Contains, AllByRecursion, filter_map}
+use Rattle.std.specs.List.Sorted.{IsNonDecreasingBy}
+use Rattle.std.proofs.lemmas.Grind.{common_steps}
+use Rattle.std.proofs.lemmas.List.{length-drop, get_or-drop}
+use Rattle.std.proofs.lemmas.Option.{get_or_from_slice_get}
 use Rattle.std.proofs.lemmas.Bool.{leb-true, leb-false, le-ltb, lt-ltb, lt-leb}
 use Rattle.std.proofs.lemmas.List.{length-set}
 use Rattle.adg_base.specs.Area.{Held}
@@ -20,14 +24,15 @@ use Rattle.core_rules.specs.Share.{begun_above, nodes_of, node_of, is_shared_by}
 use Rattle.core_rules.specs.State.{CoreState, Worker, At, share_of, limit, holds_begin}
 use Rattle.core_rules.specs.Applying.{CanMine, Mines, CanRaise, Raises, mined_node, mined_ddl, entered, entered_if, end_kind}
 use Rattle.core_rules.specs.Parts.{AreByScn}
-use Rattle.core_rules.proofs.Lists.{at_same, at_contains, contains_at, at_take_back, each_from, has, has_filter_back, has_filter_map_back, contains, filter_order}
-use Rattle.core_rules.proofs.Shares.{node_is}
+use Rattle.core_rules.proofs.Lists.{at_same, at_within, at_contains, contains_at, at_take_back, each_from, has, has_filter_back, has_filter_map_back, contains, filter_order}
+use Rattle.core_rules.proofs.Shares.{node_is, share_log}
 use Rattle.core_rules.proofs.FactsOrder.{positions, rises}
 use Rattle.core_rules.proofs.ExactWorkers.{area_with, area_takes}
 use Rattle.standby_core.specs.declared.standby.Core.{Core}
 use Rattle.standby_core.specs.declared.worker.Worker.{Worker as OwnWorker}
 use Rattle.standby_core.specs.Each.{EachAt}
 use Rattle.standby_core.specs.Held.{SameHeld}
+use Rattle.standby_core.specs.Looks.{below_first, IsMinedThrough}
 use Rattle.standby_core.specs.Mining.{node_noted, ddl_noted, IsBehind, TakesMined, StaysSame}
 use Rattle.standby_core.specs.Parts.{ShowsWorker}
 use Rattle.standby_core.specs.Shows.{Shows, IsState, HasStepped}
@@ -87,6 +92,43 @@ ddl_is_noted e (Some (mined.Note t a)) ddl h = refl
 ddl_is_noted e (Some (mined.End t flag committed)) ddl h = refl
 ddl_is_noted e (Some (mined.Ddl o)) ddl h = entered_is (record { scn = e.scn; obj = o }) ddl h
 
+-- what is left of a list from a place on
+drop_at : (xs : List LogEntry) (n : ℕ) (x : LogEntry) → At xs n x → drop n xs ≡ x ∷ drop (suc n) xs
+drop_at xs n x h = drop-cons xs n x (at_within xs n x h) ∙ ap (λ z. z ∷ drop (suc n) xs) (get_or_from_slice_get xs n x x h)
+
+drop_all : (xs : List LogEntry) (n : ℕ) → length xs ≤ n → drop n xs ≡ []
+drop_all xs n l = none (drop n xs) (let d : length (drop n xs) ≡ length xs - n = length-drop n xs in omega arith)
+  where
+    none : (ys : List LogEntry) → length ys ≡ 0 → ys ≡ []
+    none [] e = refl
+    none (y ∷ ys) e = let k : suc (length ys) ≡ 0 = e in absurd (omega arith)
+
+-- where SCNs do not fall the first of the rest tells whether all of it is above an SCN
+rest_above : (through n : ℕ) (xs : List LogEntry) (x : LogEntry) → IsNonDecreasingBy (λ (e : LogEntry). e.scn) xs → At xs n x → through < x.scn → AllByRecursion (λ (e : LogEntry). through < e.scn) (drop n xs)
+rest_above through n xs x rises at l = each_from (λ (e : LogEntry). through < e.scn) (drop n xs) each
+  where
+    each : (e : LogEntry) → Contains (drop n xs) e → through < e.scn
+    each e k =
+        let later : n + k.0 < length xs = let d : length (drop n xs) ≡ length xs - n = length-drop n xs in let w : k.0 < length (drop n xs) = k.1 in omega arith in
+        let is : get_or xs (n + k.0) e ≡ e = sym (get_or-drop n xs k.0 e) ∙ k.2 in
+        let first : get_or xs n e ≡ x = get_or_from_slice_get xs n x e at in
+        let up : (get_or xs n e).scn ≤ (get_or xs (n + k.0) e).scn = rises n (n + k.0) e (omega arith) later in
+        let a : (get_or xs n e).scn ≡ x.scn = ap (λ (z : LogEntry). z.scn) first in
+        let b : (get_or xs (n + k.0) e).scn ≡ e.scn = ap (λ (z : LogEntry). z.scn) is in
+        omega arith
+
+pub first_tells : (through n : ℕ) (xs : List LogEntry) (x : LogEntry) → IsNonDecreasingBy (λ (e : LogEntry). e.scn) xs → At xs n x → (b : Bool) → b ≡ is_lt (nat_cmp through x.scn)
+    → MatchBool b (AllByRecursion (λ (e : LogEntry). through < e.scn) (drop n xs)) (AllByRecursion (λ (e : LogEntry). through < e.scn) (drop n xs) → ⊥)
+first_tells through n xs x rises at b is = by b is
+  where
+    by : (t : Bool) → t ≡ is_lt (nat_cmp through x.scn) → MatchBool t (AllByRecursion (λ (e : LogEntry). through < e.scn) (drop n xs)) (AllByRecursion (λ (e : LogEntry). through < e.scn) (drop n xs) → ⊥)
+    by true e = rest_above through n xs x rises at (let l : through < x.scn = grind (arith, common_steps) in l)
+    by false e = λ all.
+        let first : AllByRecursion (λ (e : LogEntry). through < e.scn) (x ∷ drop (suc n) xs) = subst (AllByRecursion (λ (e : LogEntry). through < e.scn)) (drop_at xs n x at) all in
+        let above : through < x.scn = first.0 in
+        let below : x.scn ≤ through = grind (arith, common_steps) in
+        absurd (omega arith)
+
 module _ (core : Core) (c : CoreState) (h : IsState core c) where
   pub not_ready_mine : (worker : ℕ) → (CanMine c worker → ⊥) → HasStepped core c (event.Mine worker) NotReady
   not_ready_mine worker never = record { next = c; steps = inl (refl, never, refl); shows = h.shows }
@@ -113,6 +155,9 @@ module _ (core : Core) (c : CoreState) (h : IsState core c) where
         let s : length x.share ≡ length (share_of c worker) = ap length (share_is core c h worker x r.0 r.2) in
         let w : r.0.applied ≤ length (share_of c worker) = (h.invariant.workers worker r.0 r.1).counts.within in
         omega arith
+
+    pub mined_within : (e : LogEntry) → At x.share x.mined e → Contains c.log e
+    mined_within e next = share_log (length c.workers) worker c.log e (at_contains (share_of c worker) x.mined e (subst (λ es. At es x.mined e) (share_is core c h worker x r.0 r.2) next))
 
     pub own_area : IsArea x.area
     own_area = r.2.is_area
@@ -257,3 +302,18 @@ module _ (core : Core) (c : CoreState) (h : IsState core c) where
         workers = subst (λ k. EachAt (ShowsWorker core.worker_count c.log) k (slice_set c.workers worker new_w)) (sym ws_is)
             (each_set (ShowsWorker core.worker_count c.log) core.workers.items c.workers h.shows.workers worker (record x { progress = through }) new_w
             (record { share = r.2.share; applied = r.2.applied; mined = r.2.mined; progress = refl; area = r.2.area; is_area = r.2.is_area; ends = r.2.ends }))
+
+    -- how far its progress may be raised
+    pub through_next : (e : LogEntry) → At x.share x.mined e → (scn : ℕ) → scn ≡ e.scn - 1 → IsMinedThrough c worker scn
+    through_next e next scn is = record {
+      was = r.0;
+      found = r.1;
+      is = is ∙ sym (ap (below_first c.frontier) (sym own_rest ∙ drop_at x.share x.mined e next));
+    }
+
+    pub through_all : length x.share ≤ x.mined → IsMinedThrough c worker core.frontier
+    through_all l = record {
+      was = r.0;
+      found = r.1;
+      is = h.shows.frontier ∙ sym (ap (below_first c.frontier) (sym own_rest ∙ drop_all x.share x.mined l));
+    }

@@ -1,5 +1,5 @@
 -- Redo that continues the log goes into the shares, and the core shows the longer log.
-use Rattle.std.proofs.Common.{◌≡◌, ℕ, ◌+◌, ◌<◌, ◌≤◌, Bool, List, [], ◌∷◌, ◌++◌, length, length-append, filter, Option, Some, None, refl, sym, ap, ◌∙◌, subst, arith, Vec, Global}
+use Rattle.std.proofs.Common.{◌≡◌, ℕ, ◌+◌, ◌<◌, ◌≤◌, ◌^◌, Bool, List, [], ◌∷◌, ◌++◌, length, length-append, filter, Option, Some, None, refl, sym, ap, ◌∙◌, subst, arith, Vec, Global}
 use Rattle.std.specs.Prelude.{slice_get}
 use Rattle.std.proofs.lemmas.List.Elements.{filter-append}
 use Rattle.adg_base.specs.Shard.{shard_of_vector}
@@ -25,10 +25,10 @@ use Rattle.standby_core.proofs.Each.{each_left, each_right, each_weaker}
 pub share_more : (workers worker : ℕ) (log entries : List LogEntry) → share workers worker (log ++ entries) ≡ share workers worker log ++ share workers worker entries
 share_more workers worker log entries = filter-append (λ (e : LogEntry). is_shared_by workers worker (shard_of_vector e.vector)) log entries
 
-pub receive_shows : (core : Core) (c : CoreState) (entries : List LogEntry) (frontier received : ℕ) (ws : Vec OwnWorker Global) → IsState core c
+pub receive_shows : (core : Core) (c : CoreState) (entries : List LogEntry) (frontier received : ℕ) (ws : Vec OwnWorker Global) → received < 2 ^ 64 → IsState core c
     → IsContinuation c.log c.frontier entries frontier → received ≡ core.received + length entries → AreDealt entries core.workers.items ws.items
     → HasReceived (record core { workers = ws; received = received; frontier = frontier }) c entries frontier
-receive_shows core c entries frontier received ws h continues count dealt = record {
+receive_shows core c entries frontier received ws few h continues count dealt = record {
   next = next;
   receives = receives;
   is = record { shows = shows; invariant = receiving_keeps_invariant c entries frontier next receives h.invariant };
@@ -63,6 +63,7 @@ receive_shows core c entries frontier received ws h continues count dealt = reco
       worker_count = h.shows.worker_count;
       session_count = h.shows.session_count;
       received = let r : core.received ≡ length c.log = h.shows.received in let l = length-append c.log entries in count ∙ ap (λ n. n + length entries) r ∙ sym l;
+      fits = let r : core.received ≡ length c.log = h.shows.received in let l = length-append c.log entries in omega arith;
       frontier = refl;
       query = h.shows.query;
       born = h.shows.born;

@@ -1,10 +1,12 @@
 -- A core as it starts shows the opening state.
-use Rattle.std.proofs.Common.{◌≡◌, ℕ, ◌+◌, ◌<◌, ◌≤◌, ◌%◌, Bool, true, false, List, [], ◌∷◌, length, Option, Some, None, refl, sym, ap, ◌∙◌, subst, arith, Vec, Global, mod-lt}
+use Rattle.std.proofs.Common.{◌≡◌, ℕ, ◌+◌, ◌<◌, ◌≤◌, ◌%◌, Bool, true, false, List, [], ◌∷◌, ◌++◌, length, length-append, Option, Some, None, ◌⊎◌, inl, inr, refl, sym, ap, ◌∙◌, subst, arith, Vec, Global, mod-lt}
 use Rattle.std.specs.Prelude.{slice_get, replicate, count_by}
+use Rattle.std.proofs.lemmas.Bool.{cases_lt}
 use Rattle.std.proofs.lemmas.List.{length-replicate}
 use Rattle.adg_base.specs.Shard.{shard_of_unit}
 use Rattle.adg_base.specs.Area.{Held}
 use Rattle.adg_base.specs.declared.log.LogEntry.{LogEntry}
+use Rattle.adg_base.specs.declared.node.DdlNode.{DdlNode}
 use Rattle.std.specs.List.{IsDistinct}
 use Rattle.adg_journal.specs.Area.{IsArea}
 use Rattle.row_blocks.specs.declared.shard.Shard.{Shard as OwnShard}
@@ -15,7 +17,7 @@ use Rattle.row_blocks.proofs.Together.{log_none}
 use Rattle.column_units.specs.Shard as own
 use Rattle.core_rules.specs.State.{CoreState, Worker, Shard, Link, Session, At, opening, idle_worker, empty_shard, no_units}
 use Rattle.core_rules.specs.State as rules
-use Rattle.core_rules.proofs.Lists.{at_exists, at_within, at_replicate}
+use Rattle.core_rules.proofs.Lists.{at_exists, at_within, at_same, at_append_within, at_replicate}
 use Rattle.standby_core.specs.declared.standby.Core.{Core}
 use Rattle.standby_core.specs.declared.worker.Worker.{Worker as OwnWorker}
 use Rattle.standby_core.specs.declared.session.Session.{Session as OwnSession}
@@ -101,25 +103,46 @@ start_flush workers links held none free = record {
     no_link : (n : ℕ) (x : OwnLink) → At links.items n x → ⊥
     no_link n x at = nothing_at n x (subst (λ l. At l n x) none at)
 
-pub start_shows : (alloc : Global) (workers sessions : ℕ) (ws : Vec OwnWorker Global) (ss : Vec OwnShard Global) (links : Vec OwnLink Global) (held : Vec (Option ℕ) Global) (us : Vec own.Units Global) (seats : Vec OwnSession Global)
-    → ws.items ≡ replicate workers own_idle → length ss.items ≡ 64 → StandAtStart (shards_in ss.items) → links.items ≡ [] → held.items ≡ replicate (workers + 1) None → AreEmpty us.items
+pub start_shows : (alloc : Global) (workers sessions : ℕ) (ddl : List DdlNode) (ws : Vec OwnWorker Global) (ss : Vec OwnShard Global) (links : Vec OwnLink Global) (held : Vec (Option ℕ) Global) (us : Vec own.Units Global) (seats : Vec OwnSession Global)
+    → ddl ≡ [] → ws.items ≡ replicate workers own_idle → length ss.items ≡ 64 → StandAtStart (shards_in ss.items) → links.items ≡ [] → held.items ≡ replicate (workers + 1) None → AreEmpty us.items
     → seats.items ≡ replicate sessions own_session.Free
     → Shows (record {
-      alloc = alloc; worker_count = workers; session_count = sessions; received = 0; frontier = 0; query = 0; born = 0; workers = ws; shards = ss; ddl = [];
+      alloc = alloc; worker_count = workers; session_count = sessions; received = 0; frontier = 0; query = 0; born = 0; workers = ws; shards = ss; ddl = ddl;
       flush = record { quiesce = own_quiesce.Idle; links = links; claimed = 0; done = 0; held = held };
       units = us; sessions = seats; ticket = 0 }) (opening workers sessions)
-start_shows alloc workers sessions ws ss links held us seats w_is count start none free empty s_is = record {
+start_shows alloc workers sessions ddl ws ss links held us seats d_is w_is count start none free empty s_is = record {
   worker_count = sym (length-replicate workers idle_worker);
   session_count = sym (length-replicate sessions rules.Free);
   received = refl;
+  fits = omega arith;
   frontier = refl;
   query = refl;
   born = refl;
   workers = subst (λ l. EachAt (ShowsWorker workers []) l (replicate workers idle_worker)) (sym w_is) (start_workers workers);
   shards = start_shards ss.items count start;
-  ddl = refl;
+  ddl = d_is;
   flush = start_flush workers links held none free;
   units = start_units us.items empty;
   sessions = subst (λ l. EachAt (λ n. ShowsSession) l (replicate sessions rules.Free)) (sym s_is) (start_sessions sessions);
   ticket = refl;
 }
+
+-- one shard of units more
+pub one_more_shard : (us : List own.Units) (u : own.Units) (n : ℕ) → length us ≡ n → u.number ≡ n → ((obj extent : ℕ) → own.unit_at u obj extent ≡ None)
+    → ((m : ℕ) (s : own.Units) → At us m s → (s.number ≡ m) × ((obj extent : ℕ) → own.unit_at s obj extent ≡ None))
+    → (m : ℕ) (s : own.Units) → At (us ++ u ∷ []) m s → (s.number ≡ m) × ((obj extent : ℕ) → own.unit_at s obj extent ≡ None)
+one_more_shard us u n count number empty each m s at = by (cases_lt m (length us))
+  where
+    by : (m < length us) ⊎ (length us ≤ m) → (s.number ≡ m) × ((obj extent : ℕ) → own.unit_at s obj extent ≡ None)
+    by (inl l) = each m s (at_append_within us (u ∷ []) m s l at)
+    by (inr l) =
+        let long : length (us ++ u ∷ []) ≡ length us + 1 = length-append us (u ∷ []) in
+        let within : m < length (us ++ u ∷ []) = at_within (us ++ u ∷ []) m s at in
+        let place : m ≡ length us = omega arith in
+        let here : At (us ++ u ∷ []) (length us) u = last_at us u in
+        let same : u ≡ s = at_same (us ++ u ∷ []) (length us) u s here (subst (λ k. At (us ++ u ∷ []) k s) place at) in
+        (ap (λ (x : own.Units). x.number) (sym same) ∙ number ∙ sym count ∙ sym place, subst (λ (x : own.Units). (obj extent : ℕ) → own.unit_at x obj extent ≡ None) same empty)
+      where
+        last_at : (xs : List own.Units) (x : own.Units) → At (xs ++ x ∷ []) (length xs) x
+        last_at [] x = refl
+        last_at (y ∷ ys) x = last_at ys x

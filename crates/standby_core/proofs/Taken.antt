@@ -1,5 +1,5 @@
 -- What a worker takes of what an entry notes.
-use Rattle.std.proofs.Common.{◌≡◌, ℕ, ◌<◌, ◌≤◌, Bool, true, List, [], ◌∷◌, ◌++◌, Option, Some, None, refl, sym, ap, ◌∙◌, subst}
+use Rattle.std.proofs.Common.{◌≡◌, ℕ, ◌+◌, ◌<◌, ◌≤◌, Bool, true, List, [], ◌∷◌, ◌++◌, Option, Some, None, refl, sym, ap, ◌∙◌, subst}
 use Rattle.std.specs.List.{AllByRecursion}
 use Rattle.adg_base.specs.Address.{Place}
 use Rattle.adg_base.specs.Area.{Held}
@@ -65,3 +65,9 @@ behind_scns scn pos (n ∷ ns) h = (h.0.0, behind_scns scn pos ns h.1)
 pub behind_places : (scn pos : ℕ) (ns : List Node) → IsBehind scn pos ns → AllByRecursion (λ (n : Node). n.pos < pos) ns
 behind_places scn pos [] h = tt
 behind_places scn pos (n ∷ ns) h = (h.0.1, behind_places scn pos ns h.1)
+
+-- one more is mined
+pub mined_more : (scn pos : ℕ) (what : Option Mined) (old new : Worker) (table table' : List DdlNode) → TakesMined scn pos what old new table table'
+    → TakesMined scn pos what (record old { mined = old.mined + 1 }) (record new { mined = new.mined + 1 }) table table'
+mined_more scn pos what old new table table' h =
+    record { share = h.share; applied = h.applied; mined = ap (λ n. n + 1) h.mined; progress = h.progress; area = h.area; is_area = h.is_area; ends = h.ends; ddl = h.ddl }

@@ -1,5 +1,5 @@
 -- What state of the rules a core shows, and what its calls make of it.
-use Rattle.std.specs.Prelude.{◌≡◌, ℕ, List, length, Result, Ok, Err}
+use Rattle.std.specs.Prelude.{◌≡◌, ℕ, ◌<◌, ◌^◌, List, length, Result, Ok, Err}
 use Rattle.adg_base.specs.declared.log.LogEntry.{LogEntry}
 use Rattle.core_rules.specs.declared.event.Event.{Event}
 use Rattle.core_rules.specs.declared.event.CoreAnswer.{CoreAnswer}
@@ -16,6 +16,7 @@ pub record Shows (core : Core) (c : CoreState) : Type 0 where
   pub worker_count : core.worker_count ≡ length c.workers
   pub session_count : core.session_count ≡ length c.sessions
   pub received : core.received ≡ length c.log
+  pub fits : length c.log < 2 ^ 64
   pub frontier : core.frontier ≡ c.frontier
   pub query : core.query ≡ c.query
   pub born : core.born ≡ c.born
