@@ -85,17 +85,20 @@ module _ (core : Core) (c : CoreState) (h : IsState core c) where
           → HasStepped (record core { workers = ws; shards = ss }) c (event.Apply worker) Moved
       apply_moves number s t ws ss few own at_s takes ws_is ss_is = record {
         next = record c { workers = slice_set c.workers worker new_w; shards = slice_set c.shards number new_s };
-        steps = inr (refl, record {
-          was = r.0;
-          found = r.1;
-          entry = e;
-          next = subst (λ n. At (share_of c worker) n e) r.2.applied in_share;
-          place = number;
-          own = own;
-          shard = rs.0;
-          at = rs.1;
-          effect = refl;
-        });
+        steps = inr (
+          refl,
+          record {
+            was = r.0;
+            found = r.1;
+            entry = e;
+            next = subst (λ n. At (share_of c worker) n e) r.2.applied in_share;
+            place = number;
+            own = own;
+            shard = rs.0;
+            at = rs.1;
+            effect = refl;
+          },
+        );
         shows = with_shards (record core { workers = ws }) (record c { workers = slice_set c.workers worker new_w }) ss (slice_set c.shards number new_s)
             (with_workers core c ws (slice_set c.workers worker new_w) h.shows workers (length-set c.workers worker new_w)) shards;
       }
@@ -130,11 +133,11 @@ module _ (core : Core) (c : CoreState) (h : IsState core c) where
           stands (inr l) =
               let own_number : shard_of_vector e.vector ≡ Some s.number = own ∙ ap Some (sym rs.2.number) in
               let closes = λ (z : LogEntry) (k : Contains c.log z) (o : shard_of_vector z.vector ≡ Some s.number) (m : z.pos < e.pos).
-                  let o' : shard_of_vector z.vector ≡ Some number = o ∙ ap Some rs.2.number in
-                  let b : z.pos < rs.0.applied = next_closes_shard c worker r.0 e z number rs.0 h.invariant r.1 (subst (λ n. At (share_of c worker) n e) r.2.applied in_share) own rs.1 k o' m in
-                  let a : s.applied ≡ rs.0.applied = rs.2.applied in
-                  let d : z.pos < s.applied = omega arith in
-                  d in
+              let o' : shard_of_vector z.vector ≡ Some number = o ∙ ap Some rs.2.number in
+              let b : z.pos < rs.0.applied = next_closes_shard c worker r.0 e z number rs.0 h.invariant r.1 (subst (λ n. At (share_of c worker) n e) r.2.applied in_share) own rs.1 k o' m in
+              let a : s.applied ≡ rs.0.applied = rs.2.applied in
+              let d : z.pos < s.applied = omega arith in
+              d in
               (takes.stands l bound c.log c.frontier rs.0.floor h.invariant.log (next_entry (shown s) c.log c.frontier e h.invariant.log entry_within own_number l closes)).0 rs.2.stands
 
           shards : EachAt (ShowsShard c.log) ss.items (slice_set c.shards number new_s)
