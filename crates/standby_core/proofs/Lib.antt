@@ -14,3 +14,5 @@ pub mod Received
 pub mod Deals
 pub mod Stepped
 pub mod Laws
+pub mod Claiming
+pub mod Beginning

@@ -2,6 +2,8 @@
 //! populations and scans, and what each event makes of them.
 #![tactic(auto)]
 
+mod begin_flush;
+mod claim;
 pub mod flush;
 pub mod link;
 mod looks;
