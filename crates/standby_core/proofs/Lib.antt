@@ -9,3 +9,5 @@ pub mod Areas
 pub mod Mined
 pub mod Started
 pub mod Received
+pub mod Walked
+pub mod Rewound

@@ -8,3 +8,4 @@ pub mod Steps
 pub mod Received
 pub mod Entries
 pub mod Mining
+pub mod Restarting

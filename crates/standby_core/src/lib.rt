@@ -6,6 +6,7 @@ pub mod flush;
 pub mod link;
 mod looks;
 mod receive;
+mod restart;
 pub mod session;
 pub mod share;
 pub mod standby;
