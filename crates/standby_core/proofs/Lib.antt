@@ -16,3 +16,5 @@ pub mod Stepped
 pub mod Laws
 pub mod Claiming
 pub mod Beginning
+pub mod Walked
+pub mod Rewound

@@ -10,3 +10,4 @@ pub mod Entries
 pub mod Mining
 pub mod Laws
 pub mod Begin
+pub mod Restarting

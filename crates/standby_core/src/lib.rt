@@ -5,10 +5,11 @@
 mod begin_flush;
 mod claim;
 pub mod flush;
+pub mod law;
 pub mod link;
 mod looks;
-pub mod law;
 mod receive;
+mod restart;
 pub mod session;
 pub mod share;
 pub mod standby;
