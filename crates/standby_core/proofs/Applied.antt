@@ -6,6 +6,7 @@ use Rattle.std.specs.List.Sorted.{IsNonDecreasingBy}
 use Rattle.std.proofs.lemmas.Option.{slice_get-get_or}
 use Rattle.std.proofs.lemmas.Bool.{cases_lt}
 use Rattle.std.proofs.lemmas.List.{length-set}
+use Rattle.std.proofs.lemmas.List.Sums.{length-filter, count_by-le-length}
 use Rattle.adg_base.specs.Shard.{shard_of_vector}
 use Rattle.adg_base.specs.declared.log.LogEntry.{LogEntry}
 use Rattle.row_blocks.specs.declared.shard.Shard.{Shard as OwnShard}
@@ -64,9 +65,9 @@ module _ (core : Core) (c : CoreState) (h : IsState core c) where
   share_rises worker x at =
       let r = worker_there worker x at in
       subst (IsNonDecreasingBy (λ (e : LogEntry). e.scn)) (sym (share_is worker x r.0 r.2)) (rising (share_of c worker) (λ i j e f l at_e at_f.
-          let o = filter_order (λ (z : LogEntry). is_shared_by (length c.workers) worker (shard_of_vector z.vector)) c.log i j e f l at_e at_f in
-          let less : o.0 < o.1 = o.4 in
-          rises c.log c.frontier h.invariant.log o.0 o.1 e f (omega arith) o.2 o.3))
+      let o = filter_order (λ (z : LogEntry). is_shared_by (length c.workers) worker (shard_of_vector z.vector)) c.log i j e f l at_e at_f in
+      let less : o.0 < o.1 = o.4 in
+      rises c.log c.frontier h.invariant.log o.0 o.1 e f (omega arith) o.2 o.3))
     where
       rising : (es : List LogEntry) → ((i j : ℕ) (e f : LogEntry) → i < j → At es i e → At es j f → e.scn ≤ f.scn) → IsNonDecreasingBy (λ (e : LogEntry). e.scn) es
       rising es each i j d below within = by_order (cases_lt i j)
@@ -111,6 +112,16 @@ module _ (core : Core) (c : CoreState) (h : IsState core c) where
       pub entry_within : Contains c.log e
       entry_within = share_log (length c.workers) worker c.log e (at_contains (share_of c worker) x.applied e in_share)
 
+      -- one more can be counted
+      pub applied_fits : x.applied + 1 < 2 ^ 64
+      applied_fits =
+          let within : x.applied < length (share_of c worker) = at_within (share_of c worker) x.applied e in_share in
+          let shorter : length (share_of c worker) ≤ length c.log =
+          subst (λ n. n ≤ length c.log) (sym (length-filter (λ (z : LogEntry). is_shared_by (length c.workers) worker (shard_of_vector z.vector)) c.log))
+          (count_by-le-length (λ (z : LogEntry). is_shared_by (length c.workers) worker (shard_of_vector z.vector)) c.log) in
+          let few : length c.log < 2 ^ 64 = h.shows.fits in
+          omega arith
+
       -- where the entry is applied the core shows the state that the event makes
       pub apply_moves : (number : ℕ) (s t : OwnShard) (ws : Vec OwnWorker Global) (ss : Vec OwnShard Global)
           → shard_of_vector e.vector ≡ Some number → At core.shards.items number s → TakesEntry s e t
@@ -118,17 +129,20 @@ module _ (core : Core) (c : CoreState) (h : IsState core c) where
           → HasStepped (record core { workers = ws; shards = ss }) c (event.Apply worker) Moved
       apply_moves number s t ws ss own at_s takes ws_is ss_is = record {
         next = record c { workers = slice_set c.workers worker new_w; shards = slice_set c.shards number new_s };
-        steps = inr (refl, record {
-          was = r.0;
-          found = r.1;
-          entry = e;
-          next = subst (λ n. At (share_of c worker) n e) r.2.applied in_share;
-          place = number;
-          own = own;
-          shard = rs.0;
-          at = rs.1;
-          effect = refl;
-        });
+        steps = inr (
+          refl,
+          record {
+            was = r.0;
+            found = r.1;
+            entry = e;
+            next = subst (λ n. At (share_of c worker) n e) r.2.applied in_share;
+            place = number;
+            own = own;
+            shard = rs.0;
+            at = rs.1;
+            effect = refl;
+          },
+        );
         shows = with_shards (record core { workers = ws }) (record c { workers = slice_set c.workers worker new_w }) ss (slice_set c.shards number new_s)
             (with_workers core c ws (slice_set c.workers worker new_w) h.shows workers (length-set c.workers worker new_w)) shards;
       }
@@ -163,11 +177,11 @@ module _ (core : Core) (c : CoreState) (h : IsState core c) where
           stands (inr l) =
               let own_number : shard_of_vector e.vector ≡ Some s.number = own ∙ ap Some (sym rs.2.number) in
               let closes = λ (z : LogEntry) (k : Contains c.log z) (o : shard_of_vector z.vector ≡ Some s.number) (m : z.pos < e.pos).
-                  let o' : shard_of_vector z.vector ≡ Some number = o ∙ ap Some rs.2.number in
-                  let b : z.pos < rs.0.applied = next_closes_shard c worker r.0 e z number rs.0 h.invariant r.1 (subst (λ n. At (share_of c worker) n e) r.2.applied in_share) own rs.1 k o' m in
-                  let a : s.applied ≡ rs.0.applied = rs.2.applied in
-                  let d : z.pos < s.applied = omega arith in
-                  d in
+              let o' : shard_of_vector z.vector ≡ Some number = o ∙ ap Some rs.2.number in
+              let b : z.pos < rs.0.applied = next_closes_shard c worker r.0 e z number rs.0 h.invariant r.1 (subst (λ n. At (share_of c worker) n e) r.2.applied in_share) own rs.1 k o' m in
+              let a : s.applied ≡ rs.0.applied = rs.2.applied in
+              let d : z.pos < s.applied = omega arith in
+              d in
               (takes.stands l bound c.log c.frontier rs.0.floor h.invariant.log (next_entry (shown s) c.log c.frontier e h.invariant.log entry_within own_number l closes)).0 rs.2.stands
 
           shards : EachAt (ShowsShard c.log) ss.items (slice_set c.shards number new_s)

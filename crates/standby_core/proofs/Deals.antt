@@ -69,8 +69,11 @@ dealt_one ws e number x own at = record { same_length = sym (length-set ws (numb
             not_mine (inr f) = one_share (length ws) n e false f
 
 pub dealt_other : (ws : List Worker) (e : LogEntry) → shard_of_vector e.vector ≡ None → AreDealt (e ∷ []) ws ws
-dealt_other ws e none = record { same_length = refl; each = λ n u v at_u at_v.
-    (dealt_none ws).each n u v at_u at_v ∙ ap (λ l. record u { share = u.share ++ l }) (sym (one_share (length ws) n e false (ap (is_shared_by (length ws) n) none))) }
+dealt_other ws e none = record {
+  same_length = refl;
+  each = λ n u v at_u at_v.
+      (dealt_none ws).each n u v at_u at_v ∙ ap (λ l. record u { share = u.share ++ l }) (sym (one_share (length ws) n e false (ap (is_shared_by (length ws) n) none)));
+}
 
 -- some entries, and then some more
 pub dealt_more : (es more : List LogEntry) (xs ys zs : List Worker) → AreDealt es xs ys → AreDealt more ys zs → AreDealt (es ++ more) xs zs

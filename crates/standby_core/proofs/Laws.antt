@@ -64,6 +64,10 @@ flush_before_publish core new c next t scn h publishes shows commits above upto 
         by (inl k) = inl (s.2.all ∙ k)
         by (inr k) = inr (s.2.marked a ∙ k)
 
+-- one for what passes a test, else none
+abbrev bit : Bool → ℕ
+bit b = cond b 1 0
+
 -- of a list whose elements from a place on pass a test, and no others, so many pass it
 count_from : {X : Type 0} (p : X → Bool) (from at : ℕ) (xs : List X) → ((n : ℕ) (x : X) → At xs n x → p x ≡ nat_le from (n + at)) → from ≤ at + length xs
     → count_by p xs + (from - at) ≡ length xs
@@ -76,20 +80,20 @@ count_from {X = X} p from at (x ∷ xs) h l = by_place (cases_lt at from) (λ k.
     later : (n : ℕ) (y : X) → At xs n y → p y ≡ nat_le from (n + (at + 1))
     later n y k = let e : suc n + at ≡ n + (at + 1) = omega arith in subst (λ m. p y ≡ nat_le from m) e (h (suc n) y k)
 
-    counted : count_by p (x ∷ xs) ≡ cond (p x) 1 0 + count_by p xs
+    counted : count_by p (x ∷ xs) ≡ bit (p x) + count_by p xs
     counted = sum_by-cons (λ (y : X). cond (p y) 1 0) x xs
 
     by_place : (at < from) ⊎ (from ≤ at) → (from ≤ at + 1 + length xs → count_by p xs + (from - (at + 1)) ≡ length xs) → count_by p (x ∷ xs) + (from - at) ≡ length (x ∷ xs)
     by_place (inl b) ih =
-        let none : cond (p x) 1 0 ≡ 0 = ap (λ (b : Bool). cond b 1 0) (first ∙ lt-leb from at b) in
+        let nil : bit (p x) ≡ 0 = ap bit (first ∙ lt-leb from at b) in
         let long : from ≤ at + suc (length xs) = l in
         let rest = ih (omega arith) in
-        omega (arith, counted)
+        omega (arith, counted, nil)
     by_place (inr b) ih =
-        let one : cond (p x) 1 0 ≡ 1 = ap (λ (b : Bool). cond b 1 0) (first ∙ le-leb from at b) in
+        let unit : bit (p x) ≡ 1 = ap bit (first ∙ le-leb from at b) in
         let long : from ≤ at + suc (length xs) = l in
         let rest = ih (omega arith) in
-        omega (arith, counted)
+        omega (arith, counted, unit)
 
 -- a stage that is not claimed
 free_stage : (x : OwnStage) (l : Stage) (collected : List Collected) → l ≡ stage_with collected x → ((actor cursor : ℕ) → x ≡ Claimed actor cursor → ⊥) → (state.is_unclaimed l ≡ true) ⊎ (state.is_finished l ≡ true)

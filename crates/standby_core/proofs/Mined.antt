@@ -64,9 +64,9 @@ entered_is n (m ∷ ms) h = by (nat_le m.scn n.scn) refl (entered_is n ms h.1)
     by true e ih =
         let l : m.scn ≤ n.scn = leb-true m.scn n.scn e in
         let low : queue.upto (λ (k : DdlNode). k.scn) n.scn (m ∷ ms) ≡ m ∷ queue.upto (λ (k : DdlNode). k.scn) n.scn ms =
-            ap (λ (b : Bool). cond b (m ∷ queue.upto (λ (k : DdlNode). k.scn) n.scn ms) (queue.upto (λ (k : DdlNode). k.scn) n.scn ms)) e in
+        ap (λ (b : Bool). cond b (m ∷ queue.upto (λ (k : DdlNode). k.scn) n.scn ms) (queue.upto (λ (k : DdlNode). k.scn) n.scn ms)) e in
         let high : queue.above (λ (k : DdlNode). k.scn) n.scn (m ∷ ms) ≡ queue.above (λ (k : DdlNode). k.scn) n.scn ms =
-            ap (λ (b : Bool). cond b (m ∷ queue.above (λ (k : DdlNode). k.scn) n.scn ms) (queue.above (λ (k : DdlNode). k.scn) n.scn ms)) (le-ltb n.scn m.scn l) in
+        ap (λ (b : Bool). cond b (m ∷ queue.above (λ (k : DdlNode). k.scn) n.scn ms) (queue.above (λ (k : DdlNode). k.scn) n.scn ms)) (le-ltb n.scn m.scn l) in
         ap (λ l'. l' ++ n ∷ queue.above (λ (k : DdlNode). k.scn) n.scn (m ∷ ms)) low
         ∙ ap (λ l'. (m ∷ queue.upto (λ (k : DdlNode). k.scn) n.scn ms) ++ n ∷ l') high
         ∙ ap (λ l'. m ∷ l') ih
@@ -194,16 +194,19 @@ module _ (core : Core) (c : CoreState) (h : IsState core c) where
           → ws.items ≡ slice_set core.workers.items worker y → HasStepped (record core { workers = ws; ddl = ddl }) c (event.Mine worker) Moved
       mine_moves y ddl ws l takes ws_is = record {
         next = record c { workers = slice_set c.workers worker new_w; ddl = entered_if (mined_ddl e what) c.ddl };
-        steps = inr (refl, record {
-          was = r.0;
-          found = r.1;
-          behind = let a : x.applied ≡ r.0.applied = r.2.applied in let m : x.mined ≡ r.0.mined = r.2.mined in omega arith;
-          entry = e;
-          next = subst (λ n. At (share_of c worker) n e) r.2.mined (subst (λ es. At es x.mined e) (share_is core c h worker x r.0 r.2) next);
-          area = area_with what r.0.area;
-          noted = area_takes what r.0.area;
-          effect = refl;
-        });
+        steps = inr (
+          refl,
+          record {
+            was = r.0;
+            found = r.1;
+            behind = let a : x.applied ≡ r.0.applied = r.2.applied in let m : x.mined ≡ r.0.mined = r.2.mined in omega arith;
+            entry = e;
+            next = subst (λ n. At (share_of c worker) n e) r.2.mined (subst (λ es. At es x.mined e) (share_is core c h worker x r.0 r.2) next);
+            area = area_with what r.0.area;
+            noted = area_takes what r.0.area;
+            effect = refl;
+          },
+        );
         shows = subst (λ d. Shows (record core { workers = ws; ddl = d }) (record c { workers = slice_set c.workers worker new_w; ddl = entered_if (mined_ddl e what) c.ddl })) (sym ddl_same)
             (with_ddl (record core { workers = ws }) (record c { workers = slice_set c.workers worker new_w }) (entered_if (mined_ddl e what) c.ddl)
             (with_workers core c ws (slice_set c.workers worker new_w) h.shows workers (length-set c.workers worker new_w)));
@@ -276,7 +279,7 @@ module _ (core : Core) (c : CoreState) (h : IsState core c) where
     not_mined through never can =
         let same : can.was ≡ r.0 = sym (at_same c.workers worker r.0 can.was r.1 can.found) in
         let all : AllByRecursion (λ (e : LogEntry). through < e.scn) (drop r.0.mined (share_of c worker)) =
-            subst (λ (w : Worker). AllByRecursion (λ (e : LogEntry). through < e.scn) (drop w.mined (share_of c worker))) same can.mined in
+        subst (λ (w : Worker). AllByRecursion (λ (e : LogEntry). through < e.scn) (drop w.mined (share_of c worker))) same can.mined in
         never (subst (AllByRecursion (λ (e : LogEntry). through < e.scn)) (sym own_rest) all)
 
     -- the SCNs of its share do not fall
@@ -284,14 +287,17 @@ module _ (core : Core) (c : CoreState) (h : IsState core c) where
         → ws.items ≡ slice_set core.workers.items worker (record x { progress = through }) → HasStepped (record core { workers = ws }) c (event.Raise worker through) Moved
     raise_moves through ws above received mined ws_is = record {
       next = record c { workers = slice_set c.workers worker new_w };
-      steps = inr (refl, record {
-        was = r.0;
-        found = r.1;
-        above = let p : x.progress ≡ r.0.progress = r.2.progress in omega arith;
-        received = let f : core.frontier ≡ c.frontier = h.shows.frontier in omega arith;
-        mined = subst (AllByRecursion (λ (e : LogEntry). through < e.scn)) own_rest mined;
-        effect = refl;
-      });
+      steps = inr (
+        refl,
+        record {
+          was = r.0;
+          found = r.1;
+          above = let p : x.progress ≡ r.0.progress = r.2.progress in omega arith;
+          received = let f : core.frontier ≡ c.frontier = h.shows.frontier in omega arith;
+          mined = subst (AllByRecursion (λ (e : LogEntry). through < e.scn)) own_rest mined;
+          effect = refl;
+        },
+      );
       shows = with_workers core c ws (slice_set c.workers worker new_w) h.shows workers (length-set c.workers worker new_w);
     }
       where

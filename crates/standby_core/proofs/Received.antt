@@ -48,7 +48,7 @@ receive_shows core c entries frontier received ws few h continues count dealt = 
         let many : length core.workers.items ≡ core.worker_count = h.shows.workers.same_length ∙ sym h.shows.worker_count in
         let got : y ≡ record x.0 { share = x.0.share ++ share (length core.workers.items) n entries } = x.2 in
         let own : x.0.share ++ share (length core.workers.items) n entries ≡ share core.worker_count n (c.log ++ entries) =
-            ap (λ l. l ++ share (length core.workers.items) n entries) s.share ∙ ap (λ k. share core.worker_count n c.log ++ share k n entries) many ∙ sym (share_more core.worker_count n c.log entries) in
+        ap (λ l. l ++ share (length core.workers.items) n entries) s.share ∙ ap (λ k. share core.worker_count n c.log ++ share k n entries) many ∙ sym (share_more core.worker_count n c.log entries) in
         subst (λ (z : OwnWorker). ShowsWorker core.worker_count (c.log ++ entries) n z w) (sym got)
         (record { share = own; applied = s.applied; mined = s.mined; progress = s.progress; area = s.area; is_area = s.is_area; ends = s.ends })
 

@@ -58,7 +58,7 @@ shares_rise core c h n x at =
     let shown = each_right (ShowsWorker core.worker_count c.log) core.workers.items c.workers h.shows.workers n x at in
     subst (IsNonDecreasingBy (λ (e : LogEntry). e.scn)) (sym shown.2.share)
     (IsNonDecreasingBy-filter (λ (e : LogEntry). e.scn) (λ (e : LogEntry). is_shared_by core.worker_count n (shard_of_vector e.vector)) c.log
-        (log_rises c.log c.frontier (log_has_facts c.log c.frontier h.invariant.log)))
+    (log_rises c.log c.frontier (log_has_facts c.log c.frontier h.invariant.log)))
 
 -- the number at a place of a range
 at_range : (n a i k : ℕ) → At (range_with_len a n) i k → k ≡ a + i
@@ -88,8 +88,8 @@ workers_back core c h ws gone = record {
         let number = at_map_back (λ k. restarts.rewound c.query (share (length c.workers) k c.log)) (range_with_len 0 (length c.workers)) n w at_w in
         let same : n ≡ number.0 = let e : number.0 ≡ 0 + n = at_range (length c.workers) 0 n number.0 number.1 in omega arith in
         let place : own_place.first_above core.query old.0.share ≡ first_above c.query (share (length c.workers) number.0 c.log) =
-            same_place core.query old.0.share ∙ ap (λ q. first_above q old.0.share) h.shows.query ∙ ap (first_above c.query) shown.2.share
-            ∙ ap (λ m. first_above c.query (share m n c.log)) h.shows.worker_count ∙ ap (λ m. first_above c.query (share (length c.workers) m c.log)) same in
+        same_place core.query old.0.share ∙ ap (λ q. first_above q old.0.share) h.shows.query ∙ ap (first_above c.query) shown.2.share
+        ∙ ap (λ m. first_above c.query (share m n c.log)) h.shows.worker_count ∙ ap (λ m. first_above c.query (share (length c.workers) m c.log)) same in
         record {
           share = ap (λ (y : OwnWorker). y.share) gone_back ∙ shown.2.share;
           applied = ap (λ (y : OwnWorker). y.applied) gone_back ∙ place ∙ ap (λ (y : Worker). y.applied) number.2;
@@ -158,6 +158,7 @@ restart_steps core c h ws ddl f us seats gone none quiesce links claimed done he
     worker_count = h.shows.worker_count ∙ sym (length-map-range_with_len (λ w. restarts.rewound c.query (share (length c.workers) w c.log)) 0 (length c.workers));
     session_count = h.shows.session_count ∙ sym (length-replicate (length c.sessions) rules.Free);
     received = h.shows.received;
+    fits = h.shows.fits;
     frontier = h.shows.frontier;
     query = h.shows.query;
     born = h.shows.query;
@@ -181,7 +182,7 @@ pub restart_moves : (core : Core) (c : CoreState) → IsState core c → (ddl : 
     → HasStepped (record core { born = core.query; workers = with_items core.workers ws; ddl = ddl; flush = f; units = with_items core.units us; sessions = with_items core.sessions seats }) c event.Restart Moved
 restart_moves core c h ddl f ws us seats gone none quiesce links claimed done held emptied freed =
     restart_steps core c h (with_items core.workers ws) ddl f (with_items core.units us) (with_items core.sessions seats)
-        (subst (EachAt (λ n. GoesBack core.query) core.workers.items) (sym (written core.workers ws gone.same_length)) gone)
-        none quiesce links claimed done held
-        (subst (EachAt (λ n. IsEmptied) core.units.items) (sym (written core.units us emptied.same_length)) emptied)
-        (written core.sessions seats (sym (ap length freed ∙ length-map core.sessions.items (λ (s : OwnSession). seat.Free))) ∙ freed)
+    (subst (EachAt (λ n. GoesBack core.query) core.workers.items) (sym (written core.workers ws gone.same_length)) gone)
+    none quiesce links claimed done held
+    (subst (EachAt (λ n. IsEmptied) core.units.items) (sym (written core.units us emptied.same_length)) emptied)
+    (written core.sessions seats (sym (ap length freed ∙ length-map core.sessions.items (λ (s : OwnSession). seat.Free))) ∙ freed)

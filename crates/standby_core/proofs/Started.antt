@@ -107,9 +107,21 @@ pub start_shows : (alloc : Global) (workers sessions : ℕ) (ddl : List DdlNode)
     → ddl ≡ [] → ws.items ≡ replicate workers own_idle → length ss.items ≡ 64 → StandAtStart (shards_in ss.items) → links.items ≡ [] → held.items ≡ replicate (workers + 1) None → AreEmpty us.items
     → seats.items ≡ replicate sessions own_session.Free
     → Shows (record {
-      alloc = alloc; worker_count = workers; session_count = sessions; received = 0; frontier = 0; query = 0; born = 0; workers = ws; shards = ss; ddl = ddl;
+      alloc = alloc;
+      worker_count = workers;
+      session_count = sessions;
+      received = 0;
+      frontier = 0;
+      query = 0;
+      born = 0;
+      workers = ws;
+      shards = ss;
+      ddl = ddl;
       flush = record { quiesce = own_quiesce.Idle; links = links; claimed = 0; done = 0; held = held };
-      units = us; sessions = seats; ticket = 0 }) (opening workers sessions)
+      units = us;
+      sessions = seats;
+      ticket = 0;
+    }) (opening workers sessions)
 start_shows alloc workers sessions ddl ws ss links held us seats d_is w_is count start none free empty s_is = record {
   worker_count = sym (length-replicate workers idle_worker);
   session_count = sym (length-replicate sessions rules.Free);

@@ -40,10 +40,10 @@ module _ (core : Core) (c : CoreState) (q : ℕ) (h : IsState core c) (l : q ≤
         stands = subst (λ f. StandsFor (shown x.0) c.log f) floor s.2.stands;
         applied = each_from (λ (e : LogEntry). e.scn ≤ q → is_own x.0.number e ≡ true → e.pos < x.0.applied) c.log
             (λ e within upto own.
-                let at : shard_of_vector e.vector ≡ Some n = subst (λ k. shard_of_vector e.vector ≡ Some k) s.2.number (own_shard x.0.number (shard_of_vector e.vector) own) in
-                let cut : e.scn ≤ limit c = omega arith in
-                let done : e.pos < s.0.applied = cut_is_applied c e n s.0 h.invariant within cut at s.1 in
-                omega arith);
+            let at : shard_of_vector e.vector ≡ Some n = subst (λ k. shard_of_vector e.vector ≡ Some k) s.2.number (own_shard x.0.number (shard_of_vector e.vector) own) in
+            let cut : e.scn ≤ limit c = omega arith in
+            let done : e.pos < s.0.applied = cut_is_applied c e n s.0 h.invariant within cut at s.1 in
+            omega arith);
       } in
       subst (λ o. Serves (kept_or n o) n c.log 0 q) (sym x.1) is
 

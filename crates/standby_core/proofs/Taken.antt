@@ -34,18 +34,42 @@ module _ (scn pos : ℕ) (what : Option Mined) (old : Worker) (table : List DdlN
   pub took_end : (txn : ℕ) (flag committed : Bool) (ends : List Node) → what ≡ Some (mined.End txn flag committed)
       → ends ≡ old.ends ++ record { scn = scn; pos = pos; txn = txn; complete = is_begun old.area txn; kind = end_kind flag committed } ∷ [] → TakesMined scn pos what old (record old { ends = ends }) table table
   took_end txn flag committed ends e is' = subst (λ w. TakesMined scn pos w old (record old { ends = ends }) table table) (sym e)
-      (record { share = refl; applied = refl; mined = refl; progress = refl;
-        area = takes_nothing (Some (mined.End txn flag committed)) old.area (λ t a h. absurd cc) (λ t h. absurd cc); is_area = is; ends = is'; ddl = refl })
+      (record {
+        share = refl;
+        applied = refl;
+        mined = refl;
+        progress = refl;
+        area = takes_nothing (Some (mined.End txn flag committed)) old.area (λ t a h. absurd cc) (λ t h. absurd cc);
+        is_area = is;
+        ends = is';
+        ddl = refl;
+      })
 
   pub took_ddl : (obj : ℕ) (after : List DdlNode) → what ≡ Some (mined.Ddl obj) → after ≡ queue.entered (λ (n : DdlNode). n.scn) (record { scn = scn; obj = obj }) table → TakesMined scn pos what old old table after
   took_ddl obj after e is' = subst (λ w. TakesMined scn pos w old old table after) (sym e)
-      (record { share = refl; applied = refl; mined = refl; progress = refl;
-        area = takes_nothing (Some (mined.Ddl obj)) old.area (λ t a h. absurd cc) (λ t h. absurd cc); is_area = is; ends = sym (append_none old.ends); ddl = is' })
+      (record {
+        share = refl;
+        applied = refl;
+        mined = refl;
+        progress = refl;
+        area = takes_nothing (Some (mined.Ddl obj)) old.area (λ t a h. absurd cc) (λ t h. absurd cc);
+        is_area = is;
+        ends = sym (append_none old.ends);
+        ddl = is';
+      })
 
   pub took_none : what ≡ None → TakesMined scn pos what old old table table
   took_none e = subst (λ w. TakesMined scn pos w old old table table) (sym e)
-      (record { share = refl; applied = refl; mined = refl; progress = refl;
-        area = takes_nothing None old.area (λ t a h. absurd cc) (λ t h. absurd cc); is_area = is; ends = sym (append_none old.ends); ddl = refl })
+      (record {
+        share = refl;
+        applied = refl;
+        mined = refl;
+        progress = refl;
+        area = takes_nothing None old.area (λ t a h. absurd cc) (λ t h. absurd cc);
+        is_area = is;
+        ends = sym (append_none old.ends);
+        ddl = refl;
+      })
 
   -- where memory is wanting
   pub stays_area : (area : List Held) → IsArea area → HoldsSame old.area area → StaysSame old (record old { area = area })

@@ -4,9 +4,9 @@ ghost use Rattle.core_rules.specs.Invariant.{Invariant, Precise};
 ghost use Rattle.standby_core.specs.Parts.{AreEmpty};
 ghost use Rattle.standby_core.specs.Shows.{Shows};
 
-use crate::standby::Core;
 use crate::flush::{Flush, Quiesce};
 use crate::session::Session;
+use crate::standby::Core;
 use crate::worker::Worker;
 use adg_base::memory::Memory;
 use adg_base::number::Scn;

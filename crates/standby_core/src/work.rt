@@ -133,11 +133,13 @@ impl Worker {
         match what {
             Some(Mined::Begin { txn }) => self.area.begin(*txn),
             Some(Mined::Note { txn, addr }) => self.area.note(*txn, *addr),
-            Some(Mined::End {
-                txn,
-                flag,
-                committed,
-            }) => {
+            Some(
+                Mined::End {
+                    txn,
+                    flag,
+                    committed,
+                },
+            ) => {
                 let complete = self.area.end(*txn);
                 let kind = kind_of(*flag, *committed);
                 self.ends.enter(Node {

@@ -9,5 +9,5 @@ pub returns : goal.returns
 returns c sorted =
     let xs = c.args.entries.now in
     let point = IsPartitionPoint-from_clause (λ (e : LogEntry). nat_le e.scn c.args.q) xs c.partition_point.result c.partition_point.ensures.partitioned
-        (IsPartitionedBy-leb (λ (e : LogEntry). e.scn) xs c.args.q sorted) (λ a r f t. search rules) in
+    (IsPartitionedBy-leb (λ (e : LogEntry). e.scn) xs c.args.q sorted) (λ a r f t. search rules) in
     found_first c.args.q xs c.partition_point.result c.partition_point.ensures.bound point

@@ -1,4 +1,4 @@
-use Rattle.std.proofs.Common.{◌≡◌, ◌+◌, ◌<◌, length, arith, Some, None, rules, sym, ap, ◌∙◌, subst, refl}
+use Rattle.std.proofs.Common.{◌≡◌, ◌+◌, ◌<◌, ◌^◌, length, arith, Some, None, rules, sym, ap, ◌∙◌, subst, refl}
 use Rattle.std.specs.Prelude.{slice_get, slice_set}
 use Rattle.std.specs.Vec.{with_item}
 use Rattle.std.proofs.lemmas.Option.{slice_get-get_or}
@@ -9,7 +9,7 @@ use Rattle.core_rules.specs.State.{At}
 use Rattle.core_rules.proofs.Lists.{at_same, at_within}
 use Rattle.standby_core.specs.declared.worker.Worker.{Worker}
 use Rattle.standby_core.specs.Shows.{HasStepped}
-use Rattle.standby_core.proofs.Applied.{not_ready_apply, none_left, has_shard, shard_number, shards_count, apply_moves, apply_stays}
+use Rattle.standby_core.proofs.Applied.{not_ready_apply, none_left, has_shard, shard_number, shards_count, applied_fits, apply_moves, apply_stays}
 use Rattle.standby_core.proofs.Exits.{at_err, lent_at}
 use Rattle.standby_core.proofs.standby.Core.apply.Goals as goal
 
@@ -77,3 +77,17 @@ returns-clause-ok c c' h =
     subst (λ w. HasStepped (record core { workers = ws; shards = ss }) c' (event.Apply w) Moved) c.from-index.ensures
     (apply_moves core c' h i x at e next number s c.apply_at.new.shard ws ss own at_s c.in_ok-apply_at.ensures.ok
     (ap (λ (w : Worker). slice_set core.workers.items i (record w { applied = w.applied + 1 })) same) refl)
+
+pub overflow_add-index_mut : goal.overflow_add-index_mut
+overflow_add-index_mut c =
+    let core = c.args.self.now in
+    let i = c.from-index.result in
+    let x = c.in-Some.own.now in
+    let e = c.in-Some-next_to_apply.entry.now in
+    let y = c.index_mut-2.result.now in
+    let at : At core.workers.items i x = lent_at c.deref.result.now core.workers.items i x c.deref.ensures.value c.in-Some.ensures.lookup.0 c.in-Some.ensures.lookup.1 in
+    let at_y : At core.workers.items i y = slice_get-get_or core.workers.items i y (at_within core.workers.items i x at) ∙ ap Some (sym c.index_mut-2.ensures.value) in
+    let next : At x.share x.applied e = search rules in
+    let same : x ≡ y = at_same core.workers.items i x y at at_y in
+    let few : y.applied + 1 < 2 ^ 64 = subst (λ (w : Worker). w.applied + 1 < 2 ^ 64) same (applied_fits core c.requires.state c.requires.is i x at e next) in
+    omega arith

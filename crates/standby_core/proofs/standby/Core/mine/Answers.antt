@@ -51,8 +51,8 @@ returns-in_err-mine-clause-err c =
     let at : At core.workers.items i x = lent_at c.deref.result.now core.workers.items i x c.deref.ensures.value c.in-Some.ensures.lookup.0 c.in-Some.ensures.lookup.1 in
     let at_y : At core.workers.items i y = slice_get-get_or core.workers.items i y (at_within core.workers.items i x at) ∙ ap Some (sym c.index_mut.ensures.value) in
     at_err c.from_residual.result (λ c' h.
-        subst (λ d. Shows (record core { workers = with_item core.workers i c.mine.new.self; ddl = d }) c') (sym c.in_err-mine.ensures.err.1)
-        (mine_stays core c' h i y at_y c.mine.new.self (with_item core.workers i c.mine.new.self) c.in_err-mine.ensures.err.0 refl))
+    subst (λ d. Shows (record core { workers = with_item core.workers i c.mine.new.self; ddl = d }) c') (sym c.in_err-mine.ensures.err.1)
+    (mine_stays core c' h i y at_y c.mine.new.self (with_item core.workers i c.mine.new.self) c.in_err-mine.ensures.err.0 refl))
 
 pub returns-clause-ok : goal.returns-clause-ok
 returns-clause-ok c c' h stands =

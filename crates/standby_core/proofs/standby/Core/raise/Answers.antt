@@ -28,8 +28,8 @@ returns c c' h =
     let above : x.progress < through = search rules in
     let received : through ≤ core.frontier = search rules in
     let mined : AllByRecursion (λ (e : LogEntry). through < e.scn) (drop x.mined x.share) =
-        subst (λ b. MatchBool b (AllByRecursion (λ (e : LogEntry). through < e.scn) (drop x.mined x.share)) (AllByRecursion (λ (e : LogEntry). through < e.scn) (drop x.mined x.share) → ⊥))
-        c.if-not-has_mined.false (c.has_mined.ensures (share_rises core c' h i x at)) in
+    subst (λ b. MatchBool b (AllByRecursion (λ (e : LogEntry). through < e.scn) (drop x.mined x.share)) (AllByRecursion (λ (e : LogEntry). through < e.scn) (drop x.mined x.share) → ⊥))
+    c.if-not-has_mined.false (c.has_mined.ensures (share_rises core c' h i x at)) in
     subst (λ w. HasStepped (record core { workers = with_item core.workers i (record y { progress = through }) }) c' (event.Raise w through) Moved) c.from-index.ensures
     (raise_moves core c' h i x at through (with_item core.workers i (record y { progress = through })) above received mined
     (ap (λ (w : Worker). slice_set core.workers.items i (record w { progress = through })) same))
@@ -51,6 +51,6 @@ returns-then-not-has_mined c c' h =
     let through = c.args.through in
     let at : At core.workers.items i x = lent_at c.deref.result.now core.workers.items i x c.deref.ensures.value c.in-Some.ensures.lookup.0 c.in-Some.ensures.lookup.1 in
     let left : AllByRecursion (λ (e : LogEntry). through < e.scn) (drop x.mined x.share) → ⊥ =
-        subst (λ b. MatchBool b (AllByRecursion (λ (e : LogEntry). through < e.scn) (drop x.mined x.share)) (AllByRecursion (λ (e : LogEntry). through < e.scn) (drop x.mined x.share) → ⊥))
-        c.if-not-has_mined.true (c.has_mined.ensures (share_rises core c' h i x at)) in
+    subst (λ b. MatchBool b (AllByRecursion (λ (e : LogEntry). through < e.scn) (drop x.mined x.share)) (AllByRecursion (λ (e : LogEntry). through < e.scn) (drop x.mined x.share) → ⊥))
+    c.if-not-has_mined.true (c.has_mined.ensures (share_rises core c' h i x at)) in
     subst (λ w. HasStepped core c' (event.Raise w through) NotReady) c.from-index.ensures (not_ready_raise core c' h i through (not_mined core c' h i x at through left))
