@@ -18,3 +18,10 @@ pub mod Claiming
 pub mod Beginning
 pub mod Walked
 pub mod Rewound
+pub mod Places
+pub mod ShardPart
+pub mod Cursor
+pub mod Gathering
+pub mod Collected
+pub mod Marking
+pub mod Touched

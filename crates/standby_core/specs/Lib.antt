@@ -11,3 +11,5 @@ pub mod Mining
 pub mod Laws
 pub mod Begin
 pub mod Restarting
+pub mod Collecting
+pub mod Touching

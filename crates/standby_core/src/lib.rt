@@ -4,6 +4,7 @@
 
 mod begin_flush;
 mod claim;
+mod collect;
 pub mod flush;
 pub mod law;
 pub mod link;
@@ -14,6 +15,7 @@ pub mod session;
 pub mod share;
 pub mod standby;
 mod start;
+mod touch;
 mod work;
 pub mod worker;
 
