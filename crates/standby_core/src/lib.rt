@@ -15,6 +15,7 @@ pub mod session;
 pub mod share;
 pub mod standby;
 mod start;
+mod step;
 mod touch;
 mod work;
 pub mod worker;
