@@ -1,0 +1,8 @@
+//! Where a worker goes on after a restart, and which transactions it then knows whole.
+#![tactic(auto)]
+
+mod rewinding;
+#[cfg(test)]
+mod tests;
+
+pub use rewinding::{complete, rewind};

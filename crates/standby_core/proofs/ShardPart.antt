@@ -1,0 +1,60 @@
+-- The addresses of a unit shard, in a list in the order of unit shards.
+use Rattle.std.proofs.Common.{◌≡◌, ℕ, ◌+◌, ◌-◌, ◌<◌, ◌≤◌, min, Bool, true, false, leb, ltb, List, length, take, drop, get_or, ◌⊎◌, inl, inr, ◌↔◌, refl, sym, ap, ◌∙◌, subst, arith, length-take, length-drop, get_or-take, get_or-drop}
+use Rattle.std.specs.List.{Contains}
+use Rattle.std.specs.List.Sorted.{IsPartitionPoint}
+use Rattle.std.proofs.lemmas.Bool.{ltb-true, ltb-false, leb-true, leb-false, cases_lt}
+use Rattle.adg_base.specs.Address.{Place, place}
+use Rattle.standby_core.specs.Links.{shard_of_place}
+use Rattle.standby_core.specs.Touching.{IsInShard}
+
+-- the element at a place of a part
+part_at : (xs : List Place) (base size i : ℕ) (d : Place) → i < size → get_or (take size (drop base xs)) i d ≡ get_or xs (base + i) d
+part_at xs base size i d h = rw (get_or-take, get_or-drop)
+
+module _ (xs : List Place) (shard from to : ℕ) (start : from ≤ length xs) (end : to ≤ length xs)
+    (low : IsPartitionPoint (λ x. ltb (shard_of_place x) shard ≡ true) (λ x. ltb (shard_of_place x) shard ≡ false) xs from)
+    (high : IsPartitionPoint (λ x. leb (shard_of_place x) shard ≡ true) (λ x. leb (shard_of_place x) shard ≡ false) xs to) where
+  pub part_order : from ≤ to
+  part_order = by (cases_lt to from)
+    where
+      by : (to < from) ⊎ (from ≤ to) → from ≤ to
+      by (inr l) = l
+      by (inl l) =
+          let a : shard_of_place (get_or xs to (place 0 0 0)) < shard = ltb-true (shard_of_place (get_or xs to (place 0 0 0))) shard (low.0 to (place 0 0 0) (omega arith) l) in
+          let b : shard < shard_of_place (get_or xs to (place 0 0 0)) = leb-false (shard_of_place (get_or xs to (place 0 0 0))) shard (high.1 to (place 0 0 0) (omega arith) (omega arith)) in
+          absurd (omega arith)
+
+  pub part_has : (a : Place) → Contains (take (to - from) (drop from xs)) a ↔ IsInShard xs shard a
+  part_has a = (into, back)
+    where
+      into : Contains (take (to - from) (drop from xs)) a → IsInShard xs shard a
+      into c =
+          let t : length (take (to - from) (drop from xs)) ≡ min (to - from) (length (drop from xs)) = length-take (to - from) (drop from xs) in
+          let w : c.0 < length (take (to - from) (drop from xs)) = c.1 in
+          let l : c.0 < to - from = omega arith in
+          let e : get_or xs (from + c.0) a ≡ a = sym (part_at xs from (to - from) c.0 a l) ∙ c.2 in
+          let x : shard ≤ shard_of_place (get_or xs (from + c.0) a) = ltb-false (shard_of_place (get_or xs (from + c.0) a)) shard (low.1 (from + c.0) a (omega arith) (omega arith)) in
+          let y : shard_of_place (get_or xs (from + c.0) a) ≤ shard = leb-true (shard_of_place (get_or xs (from + c.0) a)) shard (high.0 (from + c.0) a (omega arith) (omega arith)) in
+          let s : shard_of_place (get_or xs (from + c.0) a) ≡ shard_of_place a = ap shard_of_place e in
+          record { noted = (from + c.0, omega arith, e); of = omega arith }
+
+      back : IsInShard xs shard a → Contains (take (to - from) (drop from xs)) a
+      back h =
+          let k : ℕ = h.noted.0 in
+          let w : k < length xs = h.noted.1 in
+          let e : get_or xs k a ≡ a = h.noted.2 in
+          let s : shard_of_place (get_or xs k a) ≡ shard = ap shard_of_place e ∙ h.of in
+          at k w e s (cases_lt k from) (cases_lt k to)
+        where
+          at : (k : ℕ) → k < length xs → get_or xs k a ≡ a → shard_of_place (get_or xs k a) ≡ shard → (k < from) ⊎ (from ≤ k) → (k < to) ⊎ (to ≤ k) → Contains (take (to - from) (drop from xs)) a
+          at k w e s (inl l) m =
+              let x : shard_of_place (get_or xs k a) < shard = ltb-true (shard_of_place (get_or xs k a)) shard (low.0 k a (omega arith) l) in
+              absurd (omega arith)
+          at k w e s (inr l) (inr m) =
+              let x : shard < shard_of_place (get_or xs k a) = leb-false (shard_of_place (get_or xs k a)) shard (high.1 k a m w) in
+              absurd (omega arith)
+          at k w e s (inr l) (inl m) =
+              let t : length (take (to - from) (drop from xs)) ≡ min (to - from) (length (drop from xs)) = length-take (to - from) (drop from xs) in
+              let d : length (drop from xs) ≡ length xs - from = length-drop from xs in
+              let r : from + (k - from) ≡ k = omega arith in
+              (k - from, omega arith, part_at xs from (to - from) (k - from) a (omega arith) ∙ ap (λ n. get_or xs n a) r ∙ e)

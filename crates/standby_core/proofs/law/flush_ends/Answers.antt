@@ -1,0 +1,5 @@
+use Rattle.standby_core.proofs.Laws as laws
+use Rattle.standby_core.proofs.law.flush_ends.Goals as goal
+
+pub returns : goal.returns
+returns c = laws.flush_ends

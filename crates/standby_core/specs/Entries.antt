@@ -1,0 +1,12 @@
+-- What a shard of the row store makes of an entry of its own, applied before or not.
+use Rattle.std.specs.Prelude.{◌≡◌, ℕ, ◌+◌, ◌<◌, ◌≤◌, ◌^◌, max}
+use Rattle.adg_base.specs.declared.log.LogEntry.{LogEntry}
+use Rattle.row_blocks.specs.declared.shard.Shard.{Shard}
+use Rattle.row_blocks.specs.Shard.{shown}
+use Rattle.row_blocks.specs.Stands.{StandsForMore}
+
+pub record TakesEntry (old : Shard) (e : LogEntry) (new : Shard) : Type 0 where
+  pub number : new.number ≡ old.number
+  pub applied : e.pos + 1 < 2 ^ 64 → new.applied ≡ max old.applied (e.pos + 1)
+  pub already : e.pos < old.applied → new ≡ old
+  pub stands : old.applied ≤ e.pos → e.pos + 1 < 2 ^ 64 → StandsForMore (shown old) e (shown new)

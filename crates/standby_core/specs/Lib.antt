@@ -1,0 +1,15 @@
+pub mod Each
+pub mod Held
+pub mod Links
+pub mod Parts
+pub mod Shows
+pub mod Looks
+pub mod Steps
+pub mod Received
+pub mod Entries
+pub mod Mining
+pub mod Laws
+pub mod Begin
+pub mod Restarting
+pub mod Collecting
+pub mod Touching

@@ -1,0 +1,43 @@
+ghost use Rattle.std.specs.Prelude.{IsOk, IfOk, OnErr};
+ghost use Rattle.core_rules.specs.State.{CoreState};
+ghost use Rattle.dictionary.specs.Standing.{StandsFor};
+ghost use Rattle.standby_core.specs.Shows.{IsState, HasState};
+ghost use Rattle.standby_core.specs.Steps.{IsBuilt, Keeps, TakesNoMemory};
+
+use crate::standby::Core;
+use adg_base::memory::Memory;
+use core_rules::event::{CoreAnswer, Event};
+use dictionary::Dictionary;
+
+impl Core {
+    /// What the core answers to an event, and makes of it. `NotReady` says that the event can't happen
+    /// now, and then nothing changed. Populations and scans are not built: their events are answered
+    /// `NotReady` in any case.
+    pub fn step(&mut self, event: Event, dictionary: &Dictionary) -> Result<CoreAnswer, Memory>
+        requires { HasState self.old }
+        ensures steps { IfOk result (λ answer. IsBuilt event → (c : CoreState) → IsState self.old c → StandsFor dictionary.now c.log → Keeps self.new c event answer) }
+        ensures err { OnErr result ((c : CoreState) → IsState self.old c → IsState self.new c) }
+        ensures sure { TakesNoMemory event → IsOk result }
+    {
+        match event {
+            Event::Apply { worker } => self.apply(worker),
+            Event::Mine { worker } => self.mine(worker, dictionary),
+            Event::Raise { worker, through } => Ok(self.raise(worker, through)),
+            Event::BeginFlush { through } => self.begin_flush(through),
+            Event::Claim { actor } => Ok(self.claim(actor)),
+            Event::Collect { actor } => Ok(self.collect(actor)),
+            Event::Touch { actor } => Ok(self.touch(actor)),
+            Event::Done { actor } => Ok(self.done(actor)),
+            Event::Publish => Ok(self.publish()),
+            Event::Restart => Ok(self.restart()),
+            Event::PopBegin { .. }
+            | Event::PopRegister { .. }
+            | Event::PopRelease { .. }
+            | Event::PopRead { .. }
+            | Event::PopEnd { .. }
+            | Event::ScanBegin { .. }
+            | Event::ScanExtent { .. }
+            | Event::ScanEnd { .. } => Ok(CoreAnswer::NotReady),
+        }
+    }
+}
