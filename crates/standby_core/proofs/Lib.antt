@@ -11,3 +11,4 @@ pub mod Started
 pub mod Received
 pub mod Walked
 pub mod Rewound
+pub mod Scanned

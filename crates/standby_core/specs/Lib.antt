@@ -9,3 +9,4 @@ pub mod Received
 pub mod Entries
 pub mod Mining
 pub mod Restarting
+pub mod Scans
