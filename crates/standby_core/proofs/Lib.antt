@@ -12,3 +12,4 @@ pub mod Received
 pub mod Walked
 pub mod Rewound
 pub mod Scanned
+pub mod Gathering

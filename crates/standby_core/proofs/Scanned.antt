@@ -1,5 +1,5 @@
 -- ScanBegin and ScanEnd: when they can happen, and what they make.
-use Rattle.std.proofs.Common.{◌≡◌, ℕ, ◌+◌, ◌<◌, ◌≤◌, Bool, true, false, cond, List, [], take, length, Option, Some, None, Result, Ok, Err, Vec, Global, inl, inr, refl, sym, ap, ◌∙◌, subst, arith}
+use Rattle.std.proofs.Common.{◌≡◌, ℕ, ◌+◌, ◌<◌, ◌≤◌, Bool, true, false, cond, List, [], take, length, Option, Some, None, Result, Ok, Err, inl, inr, refl, sym, ap, ◌∙◌, subst, arith}
 use Rattle.std.specs.Prelude.{slice_set, slice_index_or}
 use Rattle.std.specs.Vec.{with_item}
 use Rattle.std.proofs.lemmas.List.{length-set}
@@ -22,12 +22,11 @@ use Rattle.core_rules.specs.State as rules
 use Rattle.core_rules.specs.Scans.{CanScan, CanEndScan, scan_refusal, new_scan, scan_reply}
 use Rattle.core_rules.specs.Populations.{with_session}
 use Rattle.core_rules.specs.declared.event.Event.TheVariants as event
-use Rattle.core_rules.specs.declared.event.CoreAnswer.TheVariants.{NotReady, Moved, Said}
+use Rattle.core_rules.specs.declared.event.CoreAnswer.TheVariants.{Moved, Said}
 use Rattle.standby_core.specs.declared.standby.Core.{Core}
 use Rattle.standby_core.specs.declared.session.Session.{Session as OwnSession}
 use Rattle.standby_core.specs.declared.session.Session.TheVariants as seat
 use Rattle.standby_core.specs.declared.session.Scan.{Scan as OwnScan}
-use Rattle.standby_core.specs.Each.{EachAt}
 use Rattle.standby_core.specs.Parts.{ShowsSession, ShowsScan}
 use Rattle.standby_core.specs.Shows.{Shows, IsState, HasStepped}
 use Rattle.standby_core.specs.Scans.{EndsWith}
