@@ -1,18 +1,24 @@
 -- What a scan gathers of an extent is what the hybrid scan gives.
-use Rattle.std.proofs.Common.{◌≡◌, ℕ, ◌+◌, suc, Bool, true, false, cond, List, [], ◌∷◌, length, Option, Some, None, inl, inr, refl, sym, ap, ◌∙◌, true≢false}
-use Rattle.std.specs.Prelude.{option_map, if◌then◌else◌}
+use Rattle.std.proofs.Common.{◌≡◌, ℕ, ◌+◌, suc, Bool, true, false, cond, List, [], ◌∷◌, length, Option, Some, None, inl, inr, refl, sym, ap, ◌∙◌, subst, true≢false}
+use Rattle.std.specs.Prelude.{option_map, if◌then◌else◌, not, nat_le, ◌&&◌}
 use Rattle.std.specs.List.{filter_map, cons_option}
 use Rattle.adg_base.specs.Address.{Place, same_place, extent_places}
 use Rattle.adg_base.specs.declared.value.Value.{Value}
 use Rattle.adg_model.specs.Database.{Rows}
 use Rattle.adg_model.specs.Query.{padded}
 use Rattle.column_codec.specs.Values.{row_at}
-use Rattle.column_codec.specs.Extent.{PlacedColumns, placed_from, placed_rows, found_from}
+use Rattle.column_codec.specs.Extent.{PlacedColumns, is_in_extent, placed_from, placed_rows, found_from}
 use Rattle.column_codec.specs.Extent as codec
 use Rattle.column_units.specs.Unit.{marks}
-use Rattle.column_units.specs.Look.{Look as OwnLook}
+use Rattle.column_units.specs.Look.{Look as OwnLook, look_in}
+use Rattle.column_units.specs.Look as own
+use Rattle.column_units.specs.declared.unit.Unit.{Unit as OwnUnit}
+use Rattle.column_units.specs.declared.unit.UnitState.{UnitState}
+use Rattle.column_units.specs.declared.unit.UnitState.TheVariants.{Loading, Ready}
+use Rattle.core_rules.specs.State.{ColumnUnit}
+use Rattle.standby_core.specs.Parts.{rows_shown, ShowsUnit}
 use Rattle.hybrid_scan.specs.Scan.{wide, stored_by, extent_rows, scanned, from_store}
-use Rattle.core_rules.specs.Scans.{Look, row_in, gathered_at, gathered, from_blocks, count_from_blocks}
+use Rattle.core_rules.specs.Scans.{Look, look_if, look_at, row_in, gathered_at, gathered, from_blocks, count_from_blocks}
 use Rattle.core_rules.proofs.Lists.{Has}
 
 -- the row at an address of placed rows is that of their columns
@@ -46,12 +52,12 @@ SameLook obj extent (Some x) (Some l) = record {
 }
 
 -- the rows of a look are as wide as the object
-abbrev pub AsWide : ℕ → Option OwnLook → Type 0
-AsWide width None = Unit {0}
-AsWide width (Some x) = (a : Place) → option_map (padded width) (codec.row_in x.columns a) ≡ codec.row_in x.columns a
+abbrev pub AsWide : (obj extent width : ℕ) → Option OwnLook → Type 0
+AsWide obj extent width None = Unit {0}
+AsWide obj extent width (Some x) = (a : Place) → Has (extent_places obj extent) a → option_map (padded width) (codec.row_in x.columns a) ≡ codec.row_in x.columns a
 
 module _ (obj extent width : ℕ) (store rows : Rows) (has : (a : Place) → Has (extent_places obj extent) a → store a ≡ rows a) where
-  pub gathered_is : (look : Option OwnLook) (l : Option Look) → SameLook obj extent look l → AsWide width look → gathered l rows width (extent_places obj extent) ≡ scanned look width store obj extent
+  pub gathered_is : (look : Option OwnLook) (l : Option Look) → SameLook obj extent look l → AsWide obj extent width look → gathered l rows width (extent_places obj extent) ≡ scanned look width store obj extent
   unfolding extent_rows
   gathered_is None None same fit = filter_map_same (gathered_at None rows width) (wide width store) (extent_places obj extent) (λ a k. ap (option_map (padded width)) (sym (has a k)))
   gathered_is None (Some l) same fit = absurd same
@@ -63,7 +69,7 @@ module _ (obj extent width : ℕ) (store rows : Rows) (has : (a : Place) → Has
           ap (λ b. cond b (option_map (padded width) (rows a)) (option_map (padded width) (row_in l.rows a))) (same.marked a k)
           ∙ ap (λ o. cond (marks x.marked a) (option_map (padded width) o) (option_map (padded width) (row_in l.rows a))) (sym (has a k))
           ∙ ap (λ o. cond (marks x.marked a) (wide width store a) o)
-              (ap (λ rs. option_map (padded width) (row_in rs a)) same.rows ∙ ap (option_map (padded width)) (row_in_placed x.columns a) ∙ fit a)
+              (ap (λ rs. option_map (padded width) (row_in rs a)) same.rows ∙ ap (option_map (padded width)) (row_in_placed x.columns a) ∙ fit a k)
 
   pub blocks_is : (look : Option OwnLook) (l : Option Look) → SameLook obj extent look l → count_from_blocks l rows (extent_places obj extent) ≡ length (from_store look width store obj extent)
   unfolding extent_rows
@@ -77,3 +83,24 @@ module _ (obj extent width : ℕ) (store rows : Rows) (has : (a : Place) → Has
       by a k true false e = absurd (true≢false e)
       by a k false true e = absurd (true≢false (sym e))
       by a k false false e = refl
+
+-- a look at a unit is that at the unit that it shows
+module _ (obj extent : ℕ) where
+  look_if_shown : (usable : Bool) (state : UnitState) (map : List ℕ) (marked : Place → Bool) → ((a : Place) → Has (extent_places obj extent) a → marked a ≡ marks map a)
+      → SameLook obj extent (look_in usable map state) (look_if usable (rows_shown state) marked)
+  look_if_shown usable Loading map marked h = tt
+  look_if_shown false (Ready columns) map marked h = tt
+  look_if_shown true (Ready columns) map marked h = record { rows = refl; marked = h }
+
+  pub look_shown : (scn : ℕ) (x : OwnUnit) (u : ColumnUnit) → ShowsUnit x u → x.obj ≡ obj → x.extent ≡ extent → ((a : Place) → Has (extent_places obj extent) a → is_in_extent obj extent a ≡ true)
+      → SameLook obj extent (own.look_at scn x) (look_at scn (Some u))
+  look_shown scn x u h same_obj same_extent within =
+      let test : (not x.all && nat_le x.snapshot scn) ≡ (not u.all && nat_le u.snapshot scn) = ap (λ b. not b && nat_le x.snapshot scn) h.all ∙ ap (λ n. not u.all && nat_le n scn) h.snapshot in
+      subst (λ o. SameLook obj extent (own.look_at scn x) (look_if (not u.all && nat_le u.snapshot scn) o u.marked)) h.columns
+      (subst (λ b. SameLook obj extent (own.look_at scn x) (look_if b (rows_shown x.state) u.marked)) test
+      (look_if_shown (not x.all && nat_le x.snapshot scn) x.state x.map u.marked marked))
+    where
+      marked : (a : Place) → Has (extent_places obj extent) a → u.marked a ≡ marks x.map a
+      marked a k =
+          let here : is_in_extent x.obj x.extent a ≡ true = ap (λ n. is_in_extent n x.extent a) same_obj ∙ ap (λ n. is_in_extent obj n a) same_extent ∙ within a k in
+          sym (h.marked a) ∙ ap (λ b. b && marks x.map a) here
