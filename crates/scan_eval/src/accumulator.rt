@@ -20,6 +20,7 @@ use adg_base::memory::Memory;
 use adg_base::value_ref::RowView;
 use std::alloc::Global;
 use std::marker::Model;
+use std::mem;
 
 /// A query with what it needs of the rows that were added so far. Contracts see the query and the
 /// list of these rows. After want of memory it has no answer any more: `finish` says `Memory`.
@@ -122,6 +123,16 @@ impl Accumulator {
                 Err(memory)
             }
         }
+    }
+
+    /// The answer over the rows that were added. Only that of the first call is sure: after it, as
+    /// after want of memory, this says `Memory`.
+    pub fn take_answer(&mut self, alloc: Global) -> Result<Answer, Memory>
+        ensures answer { IfOk result (λ answer. answer ≡ select_lines self.old.select self.old.rows) }
+        ensures same { self.new ≡ self.old }
+    {
+        let gathered = mem::replace(&mut self.gathered, Gathered::Lost);
+        gathered.into_answer(alloc, &self.select, &self.seen)
     }
 
     /// The answer over the rows that were added.

@@ -25,3 +25,5 @@ pub mod Gathering
 pub mod Collected
 pub mod Marking
 pub mod Touched
+pub mod Scanned
+pub mod ScanLooks

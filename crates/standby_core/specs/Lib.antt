@@ -13,3 +13,4 @@ pub mod Begin
 pub mod Restarting
 pub mod Collecting
 pub mod Touching
+pub mod Scans

@@ -11,6 +11,7 @@ pub mod link;
 mod looks;
 mod receive;
 mod restart;
+mod scanning;
 pub mod session;
 pub mod share;
 pub mod standby;
