@@ -191,7 +191,7 @@ fn joined(
     let at = at.min(rows.len());
     let mut front = part_of(alloc, &rows[..at], query, def)?;
     front.join(alloc, part_of(alloc, &rows[at..], query, def)?)?;
-    Ok(front.finish(alloc)?)
+    Ok(front.take_answer(alloc)?)
 }
 
 /// The vectors that give an object these rows.
