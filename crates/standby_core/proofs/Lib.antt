@@ -14,3 +14,7 @@ pub mod Received
 pub mod Deals
 pub mod Stepped
 pub mod Laws
+pub mod Seating
+pub mod UnitSets
+pub mod Releasing
+pub mod Registering

@@ -9,3 +9,4 @@ pub mod Received
 pub mod Entries
 pub mod Mining
 pub mod Laws
+pub mod Populating

@@ -6,6 +6,7 @@ pub mod flush;
 pub mod link;
 mod looks;
 pub mod law;
+mod populate;
 mod receive;
 pub mod session;
 pub mod share;
