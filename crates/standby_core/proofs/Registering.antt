@@ -1,5 +1,5 @@
 -- PopRegister: what it makes of the state, and why such an event can't happen.
-use Rattle.std.proofs.Common.{◌≡◌, ℕ, ◌+◌, ◌<◌, Bool, true, false, List, length, Vec, Global, Option, Some, None, inl, inr, refl, sym, ap, ◌∙◌, subst, arith}
+use Rattle.std.proofs.Common.{◌≡◌, ℕ, ◌+◌, ◌<◌, Bool, true, false, List, length, Vec, Global, Option, Some, None, inl, inr, refl, sym, ap, ◌∙◌, subst, arith, true≢false}
 use Rattle.std.specs.Prelude.{◌&&◌, nat_lt, slice_set, IfSome, IsSome}
 use Rattle.std.proofs.lemmas.Bool.{and_parts, and_from, lt-ltb, ltb-true, and_right}
 use Rattle.std.proofs.lemmas.List.{length-set}
@@ -41,7 +41,7 @@ new_shown obj extent p u h = record {
 }
 
 stands_shown : (obj extent : ℕ) (p : Population) (u : Option OwnUnit) → IfSome u (IsNew obj extent p.snapshot p.ticket) → IsSome u → ShowsAny u (Some (loading p))
-stands_shown obj extent p None h k = absurd k
+stands_shown obj extent p None h k = absurd (true≢false (sym k))
 stands_shown obj extent p (Some u) h k = new_shown obj extent p u h
 
 module _ (core : Core) (c : CoreState) (h : IsState core c) (session : ℕ) where
@@ -55,9 +55,11 @@ module _ (core : Core) (c : CoreState) (h : IsState core c) (session : ℕ) wher
           (and_from own.0.holds (nat_lt own.0.registered own.0.extents) (own.2.holds ∙ can.holds) (lt-ltb own.0.registered own.0.extents (omega arith)))
 
   -- want of memory leaves the units
-  pub register_keeps : (us : Vec own.Units Global) (n : ℕ) → IsSetIn KeepsAll n core.units.items us.items → Shows (record core { units = us }) c
-  register_keeps us n k =
-      with_units core c us c.units h.shows (subst (λ xs. ShowsUnits xs c.units) (sym k.set) (shows_kept core.units.items n k.was k.now k.found c.units h.shows.units k.related))
+  pub register_keeps : (ss : Vec OwnSession Global) (us : Vec own.Units Global) (n : ℕ) → ss.items ≡ core.sessions.items → IsSetIn KeepsAll n core.units.items us.items → Shows (record core { sessions = ss; units = us }) c
+  register_keeps ss us n e k =
+      with_units (record core { sessions = ss }) c us c.units
+          (with_sessions core c ss c.sessions h.shows (subst (λ xs. EachAt (λ n. ShowsSession) xs c.sessions) (sym e) h.shows.sessions) refl)
+          (subst (λ xs. ShowsUnits xs c.units) (sym k.set) (shows_kept core.units.items n k.was k.now k.found c.units h.shows.units k.related))
 
   module _ (place : ℕ) (xs : List OwnSession) (e : xs ≡ core.sessions.items) (seat : IsSeat xs session Registering place)
       (ss : Vec OwnSession Global) (us : Vec own.Units Global)

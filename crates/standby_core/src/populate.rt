@@ -113,7 +113,7 @@ impl Session {
             Session::Populating(population) => {
                 let extent = population.registered;
                 put_unit(units, population.obj, extent, population.snapshot, population.ticket)?;
-                population.registered = extent + 1;
+                population.registered = next_extent(extent, population.extents);
                 Ok(())
             }
             Session::Free | Session::Scanning(_) => Ok(()),
@@ -160,6 +160,14 @@ fn register_next(
     ensures kept { OnErr result ((p : Populates) → At sessions.old place (seat.Populating p) → IsSetIn KeepsAll (shard_of_unit p.obj p.registered) units.old units.new) }
 {
     sessions[place].register_next(units)
+}
+
+/// The number behind that of an extent of so many.
+fn next_extent(extent: u16, extents: u16) -> u16
+    requires { extent < extents }
+    ensures { result ≡ extent + 1 }
+{
+    extent + 1
 }
 
 /// A unit, not filled, stands for an extent.
