@@ -18,3 +18,4 @@ pub mod Seating
 pub mod UnitSets
 pub mod Releasing
 pub mod Registering
+pub mod Populating

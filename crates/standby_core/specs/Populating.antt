@@ -1,5 +1,6 @@
 -- In what phase a population is, and what its events make of the units.
-use Rattle.std.specs.Prelude.{◌≡◌, ℕ, ◌+◌, ◌-◌, Bool, true, not, nat_lt, nat_le, if◌then◌else◌, ◌&&◌, List, slice_set, IfSome, IsSome}
+use Rattle.std.specs.Prelude.{◌≡◌, ℕ, ◌+◌, ◌-◌, Bool, true, not, nat_lt, nat_le, if◌then◌else◌, ◌&&◌, List, [], slice_set, IfSome, IsSome}
+use Rattle.adg_base.specs.declared.definition.Definition.{Definition}
 use Rattle.column_units.specs.Unit.{IsNew}
 use Rattle.column_units.specs.Shard.{Units, unit_at, KeepsOthers}
 use Rattle.core_rules.specs.State.{At}
@@ -44,3 +45,22 @@ pub record TakesUnit (obj extent snapshot ticket : ℕ) (old new : Units) : Type
   pub unit : IfSome (unit_at new obj extent) (IsNew obj extent snapshot ticket)
   pub stands : IsSome (unit_at new obj extent)
   pub others : KeepsOthers obj extent old new
+
+-- one population more does
+abbrev pub once_more : Quiesce → Quiesce
+once_more Idle = Shared 1
+once_more (Shared n) = Shared (n + 1)
+once_more (Flushing through) = Flushing through
+
+-- a population that begins
+abbrev pub begun_population : (obj snapshot ticket : ℕ) → Definition → Population
+begun_population obj snapshot ticket d = record {
+  obj = obj;
+  extents = d.extents;
+  snapshot = snapshot;
+  ticket = ticket;
+  holds = true;
+  registered = 0;
+  installed = 0;
+  build = record { obj = obj; extent = 0; snapshot = snapshot; width = d.width; blocks = 0; rows = [] };
+}
