@@ -14,3 +14,4 @@ pub mod Restarting
 pub mod Collecting
 pub mod Touching
 pub mod Scans
+pub mod Populating

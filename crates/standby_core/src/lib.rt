@@ -9,6 +9,7 @@ pub mod flush;
 pub mod law;
 pub mod link;
 mod looks;
+mod populate;
 mod receive;
 mod restart;
 mod scanning;
