@@ -151,9 +151,9 @@ module _ (core : Core) (c : CoreState) (h : IsState core c) (session obj : ℕ) 
               ));
               shows = with_ticket (record core { sessions = ss; flush = f }) (record c { sessions = sessions_then; quiesce = held_once_more c.quiesce }) ticket
                   (with_flush (record core { sessions = ss }) (record c { sessions = sessions_then }) f (held_once_more c.quiesce) c.links
-                      (with_sessions core c ss sessions_then h.shows
-                          (subst (λ xs. EachAt (λ n. ShowsSession) xs sessions_then) (sym sessions)
-                              (each_set (λ n. ShowsSession) core.sessions.items c.sessions h.shows.sessions place (Populating (begun_population obj core.query core.ticket d)) (rules.Populating begun) shown))
-                          (length-set c.sessions place (rules.Populating begun)))
-                      (subst (λ q. ShowsFlush core.worker_count f q c.links) quiesce_is (with_keeper core.worker_count core.flush f f.quiesce c h.shows.flush same)));
+                  (with_sessions core c ss sessions_then h.shows
+                  (subst (λ xs. EachAt (λ n. ShowsSession) xs sessions_then) (sym sessions)
+                  (each_set (λ n. ShowsSession) core.sessions.items c.sessions h.shows.sessions place (Populating (begun_population obj core.query core.ticket d)) (rules.Populating begun) shown))
+                  (length-set c.sessions place (rules.Populating begun)))
+                  (subst (λ q. ShowsFlush core.worker_count f q c.links) quiesce_is (with_keeper core.worker_count core.flush f f.quiesce c h.shows.flush same)));
             }

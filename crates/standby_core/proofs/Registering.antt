@@ -52,14 +52,14 @@ module _ (core : Core) (c : CoreState) (h : IsState core c) (session : ℕ) wher
       let registered : own.0.registered ≡ can.population.registered = own.2.registered in
       let left : can.population.registered < can.population.table.extents = can.left in
       barred can.place own.0 can.is.number (at_in core.sessions.items xs can.place (Populating own.0) (sym e) own.1)
-          (and_from own.0.holds (nat_lt own.0.registered own.0.extents) (own.2.holds ∙ can.holds) (lt-ltb own.0.registered own.0.extents (omega arith)))
+      (and_from own.0.holds (nat_lt own.0.registered own.0.extents) (own.2.holds ∙ can.holds) (lt-ltb own.0.registered own.0.extents (omega arith)))
 
   -- want of memory leaves the units
   pub register_keeps : (ss : Vec OwnSession Global) (us : Vec own.Units Global) (n : ℕ) → ss.items ≡ core.sessions.items → IsSetIn KeepsAll n core.units.items us.items → Shows (record core { sessions = ss; units = us }) c
   register_keeps ss us n e k =
       with_units (record core { sessions = ss }) c us c.units
-          (with_sessions core c ss c.sessions h.shows (subst (λ xs. EachAt (λ n. ShowsSession) xs c.sessions) (sym e) h.shows.sessions) refl)
-          (subst (λ xs. ShowsUnits xs c.units) (sym k.set) (shows_kept core.units.items n k.was k.now k.found c.units h.shows.units k.related))
+      (with_sessions core c ss c.sessions h.shows (subst (λ xs. EachAt (λ n. ShowsSession) xs c.sessions) (sym e) h.shows.sessions) refl)
+      (subst (λ xs. ShowsUnits xs c.units) (sym k.set) (shows_kept core.units.items n k.was k.now k.found c.units h.shows.units k.related))
 
   module _ (place : ℕ) (xs : List OwnSession) (e : xs ≡ core.sessions.items) (seat : IsSeat xs session Registering place)
       (ss : Vec OwnSession Global) (us : Vec own.Units Global)
@@ -97,10 +97,10 @@ module _ (core : Core) (c : CoreState) (h : IsState core c) (session : ℕ) wher
     own_units : ShowsUnits us.items (with_unit p.obj p.registered (Some (loading shown.0)) c.units)
     own_units = subst (λ xs. ShowsUnits xs (with_unit p.obj p.registered (Some (loading shown.0)) c.units)) (sym units.set)
         (shows_set core.units.items (shard_of_unit p.obj p.registered) units.was units.now units.found c.units p.obj p.registered (Some (loading shown.0)) h.shows.units refl units.related.others
-            (stands_shown p.obj p.registered shown.0 (unit_at units.now p.obj p.registered)
-                (subst (λ t. IfSome (unit_at units.now p.obj p.registered) (IsNew p.obj p.registered shown.0.snapshot t)) shown.2.ticket
-                    (subst (λ s. IfSome (unit_at units.now p.obj p.registered) (IsNew p.obj p.registered s p.ticket)) shown.2.snapshot units.related.unit))
-                units.related.stands))
+        (stands_shown p.obj p.registered shown.0 (unit_at units.now p.obj p.registered)
+        (subst (λ t. IfSome (unit_at units.now p.obj p.registered) (IsNew p.obj p.registered shown.0.snapshot t)) shown.2.ticket
+        (subst (λ s. IfSome (unit_at units.now p.obj p.registered) (IsNew p.obj p.registered s p.ticket)) shown.2.snapshot units.related.unit))
+        units.related.stands))
 
     units_shown : ShowsUnits us.items (with_unit shown.0.obj shown.0.registered (Some (loading shown.0)) c.units)
     units_shown = subst (λ o. ShowsUnits us.items (with_unit o shown.0.registered (Some (loading shown.0)) c.units)) shown.2.obj
@@ -131,8 +131,8 @@ module _ (core : Core) (c : CoreState) (h : IsState core c) (session : ℕ) wher
           shows = with_units (record core { sessions = ss }) (record c { sessions = slice_set c.sessions place (rules.Populating registered) }) us
               (with_unit shown.0.obj shown.0.registered (Some (loading shown.0)) c.units)
               (with_sessions core c ss (slice_set c.sessions place (rules.Populating registered)) h.shows
-                  (subst (λ xs. EachAt (λ n. ShowsSession) xs (slice_set c.sessions place (rules.Populating registered))) (sym sessions)
-                      (each_set (λ n. ShowsSession) core.sessions.items c.sessions h.shows.sessions place (Populating (record p { registered = p.registered + 1 })) (rules.Populating registered) population_shown))
-                  (length-set c.sessions place (rules.Populating registered)))
+              (subst (λ xs. EachAt (λ n. ShowsSession) xs (slice_set c.sessions place (rules.Populating registered))) (sym sessions)
+              (each_set (λ n. ShowsSession) core.sessions.items c.sessions h.shows.sessions place (Populating (record p { registered = p.registered + 1 })) (rules.Populating registered) population_shown))
+              (length-set c.sessions place (rules.Populating registered)))
               units_shown;
         }

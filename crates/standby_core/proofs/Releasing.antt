@@ -59,7 +59,7 @@ module _ (core : Core) (c : CoreState) (h : IsState core c) (session : ℕ) wher
       let registered : own.0.registered ≡ can.population.registered = own.2.registered in
       let all : can.population.table.extents ≤ can.population.registered = can.all in
       barred can.place own.0 can.is.number (at_in core.sessions.items xs can.place (Populating own.0) (sym e) own.1)
-          (and_from own.0.holds (nat_le own.0.extents own.0.registered) (own.2.holds ∙ can.holds) (le-leb own.0.extents own.0.registered (omega arith)))
+      (and_from own.0.holds (nat_le own.0.extents own.0.registered) (own.2.holds ∙ can.holds) (le-leb own.0.extents own.0.registered (omega arith)))
 
   module _ (place : ℕ) (xs : List OwnSession) (e : xs ≡ core.sessions.items) (seat : IsSeat xs session Registered place)
       (ss : Vec OwnSession Global) (f : Flush)
@@ -118,8 +118,8 @@ module _ (core : Core) (c : CoreState) (h : IsState core c) (session : ℕ) wher
           );
           shows = with_flush (record core { sessions = ss }) (record c { sessions = slice_set c.sessions place (rules.Populating released) }) f (held_once_less c.quiesce) c.links
               (with_sessions core c ss (slice_set c.sessions place (rules.Populating released)) h.shows
-                  (subst (λ xs. EachAt (λ n. ShowsSession) xs (slice_set c.sessions place (rules.Populating released))) (sym sessions)
-                      (each_set (λ n. ShowsSession) core.sessions.items c.sessions h.shows.sessions place (Populating (record p { holds = false })) (rules.Populating released) population_shown))
-                  (length-set c.sessions place (rules.Populating released)))
+              (subst (λ xs. EachAt (λ n. ShowsSession) xs (slice_set c.sessions place (rules.Populating released))) (sym sessions)
+              (each_set (λ n. ShowsSession) core.sessions.items c.sessions h.shows.sessions place (Populating (record p { holds = false })) (rules.Populating released) population_shown))
+              (length-set c.sessions place (rules.Populating released)))
               (subst (λ q. ShowsFlush core.worker_count f q c.links) quiesce_is (with_keeper core.worker_count core.flush f f.quiesce c h.shows.flush same));
         }

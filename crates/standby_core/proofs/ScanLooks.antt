@@ -69,7 +69,7 @@ module _ (obj extent width : ℕ) (store rows : Rows) (has : (a : Place) → Has
           ap (λ b. cond b (option_map (padded width) (rows a)) (option_map (padded width) (row_in l.rows a))) (same.marked a k)
           ∙ ap (λ o. cond (marks x.marked a) (option_map (padded width) o) (option_map (padded width) (row_in l.rows a))) (sym (has a k))
           ∙ ap (λ o. cond (marks x.marked a) (wide width store a) o)
-              (ap (λ rs. option_map (padded width) (row_in rs a)) same.rows ∙ ap (option_map (padded width)) (row_in_placed x.columns a) ∙ fit a k)
+          (ap (λ rs. option_map (padded width) (row_in rs a)) same.rows ∙ ap (option_map (padded width)) (row_in_placed x.columns a) ∙ fit a k)
 
   pub blocks_is : (look : Option OwnLook) (l : Option Look) → SameLook obj extent look l → count_from_blocks l rows (extent_places obj extent) ≡ length (from_store look width store obj extent)
   unfolding extent_rows

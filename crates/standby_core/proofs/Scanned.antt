@@ -117,14 +117,14 @@ module _ (core : Core) (c : CoreState) (h : IsState core c) (session place : ℕ
     scan_no_column X r is_so follows = says (reply.NoColumn core.query)
         (ap (scan_refusal c.query select) table_is.1
         ∙ says_no_column X c.query (has_columns select table_is.0) (has_types select table_is.0)
-            (subst (λ q. Follows {X = X} (admission select table_is.0) (err X q)) is_so (subst (λ t. Follows {X = X} (admission select t) (err X r)) same follows))
+        (subst (λ q. Follows {X = X} (admission select table_is.0) (err X q)) is_so (subst (λ t. Follows {X = X} (admission select t) (err X r)) same follows))
         ∙ ap (λ q. Some (reply.NoColumn q)) (sym h.shows.query))
 
     pub scan_wrong_type : (X : Type 0) (r : QueryRefused) → r ≡ refused.WrongType → Follows {X = X} (admission select (table_of d)) (err X r) → HasStepped core c (event.ScanBegin session select) (Said (reply.WrongType core.query))
     scan_wrong_type X r is_so follows = says (reply.WrongType core.query)
         (ap (scan_refusal c.query select) table_is.1
         ∙ says_wrong_type X c.query (has_columns select table_is.0) (has_types select table_is.0)
-            (subst (λ q. Follows {X = X} (admission select table_is.0) (err X q)) is_so (subst (λ t. Follows {X = X} (admission select t) (err X r)) same follows))
+        (subst (λ q. Follows {X = X} (admission select table_is.0) (err X q)) is_so (subst (λ t. Follows {X = X} (admission select t) (err X r)) same follows))
         ∙ ap (λ q. Some (reply.WrongType q)) (sym h.shows.query))
 
     pub scan_begins : (a : Added) → a ≡ record { select = select; rows = [] } → Follows (admission select (table_of d)) (Ok a)
@@ -160,10 +160,10 @@ pub end_barred : (core : Core) (c : CoreState) → IsState core c → (session :
 end_barred core c h session barred can =
     let own = scanning_back core.sessions.items c.sessions can.place can.scan h.shows.sessions can.is.found in
     let all : own.0.definition.extents ≤ own.0.extents =
-        (let e : own.0.definition.extents ≡ can.scan.table.extents = own.2.defined.extents in
-        let f : own.0.extents ≡ can.scan.extents = own.2.extents in
-        let w : can.scan.table.extents ≤ can.scan.extents = can.whole in
-        omega arith) in
+    (let e : own.0.definition.extents ≡ can.scan.table.extents = own.2.defined.extents in
+    let f : own.0.extents ≡ can.scan.extents = own.2.extents in
+    let w : can.scan.table.extents ≤ can.scan.extents = can.whole in
+    omega arith) in
     barred can.place own.0 can.is.number own.1 all
 
 -- it ends with its answer, and the session is free
@@ -172,17 +172,17 @@ pub scan_ends : (core : Core) (c : CoreState) → IsState core c → (session pl
 scan_ends core c h session place x y said number at same ends =
     let own = scanning_shown core.sessions.items c.sessions place ends.scan h.shows.sessions (subst (At core.sessions.items place) ends.is at) in
     let whole : own.0.table.extents ≤ own.0.extents =
-        (let e : ends.scan.definition.extents ≡ own.0.table.extents = own.2.defined.extents in
-        let f : ends.scan.extents ≡ own.0.extents = own.2.extents in
-        let w : ends.scan.definition.extents ≤ ends.scan.extents = ends.whole in
-        omega arith) in
+    (let e : ends.scan.definition.extents ≡ own.0.table.extents = own.2.defined.extents in
+    let f : ends.scan.extents ≡ own.0.extents = own.2.extents in
+    let w : ends.scan.definition.extents ≤ ends.scan.extents = ends.whole in
+    omega arith) in
     let reply_is : said ≡ scan_reply own.0 =
-        ends.says
-        ∙ ap (λ (n : ℕ). reply.Rows n (select_lines ends.scan.accumulator.select ends.scan.accumulator.rows) ends.scan.col ends.scan.row) own.2.scn
-        ∙ ap (λ (s : Select). reply.Rows own.0.scn (select_lines s ends.scan.accumulator.rows) ends.scan.col ends.scan.row) own.2.asked
-        ∙ ap (λ (l : List (List Value)). reply.Rows own.0.scn (select_lines own.0.select l) ends.scan.col ends.scan.row) own.2.rows
-        ∙ ap (λ (n : ℕ). reply.Rows own.0.scn (select_lines own.0.select own.0.rows) n ends.scan.row) own.2.col
-        ∙ ap (λ (n : ℕ). reply.Rows own.0.scn (select_lines own.0.select own.0.rows) own.0.col n) own.2.row in
+    ends.says
+    ∙ ap (λ (n : ℕ). reply.Rows n (select_lines ends.scan.accumulator.select ends.scan.accumulator.rows) ends.scan.col ends.scan.row) own.2.scn
+    ∙ ap (λ (s : Select). reply.Rows own.0.scn (select_lines s ends.scan.accumulator.rows) ends.scan.col ends.scan.row) own.2.asked
+    ∙ ap (λ (l : List (List Value)). reply.Rows own.0.scn (select_lines own.0.select l) ends.scan.col ends.scan.row) own.2.rows
+    ∙ ap (λ (n : ℕ). reply.Rows own.0.scn (select_lines own.0.select own.0.rows) n ends.scan.row) own.2.col
+    ∙ ap (λ (n : ℕ). reply.Rows own.0.scn (select_lines own.0.select own.0.rows) own.0.col n) own.2.row in
     record {
       next = with_session c place rules.Free;
       steps = inr (record {

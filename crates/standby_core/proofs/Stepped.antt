@@ -1,5 +1,6 @@
 -- What a step leads to meets the invariant, and its marks are precise if they were.
 use Rattle.std.proofs.Common.{◌≡◌, ℕ, ◌⊎◌, inl, inr, Result, Ok, sym, subst}
+use Rattle.adg_base.specs.declared.command.Select.{Select}
 use Rattle.core_rules.specs.declared.event.Event.TheVariants as event
 use Rattle.std.specs.Prelude.{IfOk}
 use Rattle.std.proofs.lemmas.Result.{IfOk-weaker}
@@ -42,10 +43,18 @@ pub unasked : (core new : Core) (known : Known) (e : Event) (r : Result CoreAnsw
 unasked core new known e r h = IfOk-weaker r (λ answer. (c : CoreState) → IsState core c → HasStepped new c e answer) (λ answer. (c : CoreState) → IsState core c → StandsFor known c.log → HasStepped new c e answer) (λ answer f c k s. f c k) h
 
 -- an event that is not built
-pub unbuilt : (e : Event) → ((x : ℕ) × (e ≡ event.PopRead x)) ⊎ (((x : ℕ) × (e ≡ event.PopEnd x)) ⊎ ((x : ℕ) × (e ≡ event.ScanExtent x))) → IsBuilt e → ⊥
-unbuilt e (inl p) b = subst IsBuilt p.1 b
+pub unbuilt : (e : Event)
+    → ((x : ℕ) × (y : ℕ) × (e ≡ event.PopBegin x y)) ⊎ (((x : ℕ) × (e ≡ event.PopRegister x)) ⊎ (((x : ℕ) × (e ≡ event.PopRelease x)) ⊎ (((x : ℕ) × (e ≡ event.PopRead x)) ⊎ (((x : ℕ) × (e ≡ event.PopEnd x))
+    ⊎ (((x : ℕ) × (s : Select) × (e ≡ event.ScanBegin x s)) ⊎ (((x : ℕ) × (e ≡ event.ScanExtent x)) ⊎ ((x : ℕ) × (e ≡ event.ScanEnd x))))))))
+    → IsBuilt e → ⊥
+unbuilt e (inl p) b = subst IsBuilt p.2 b
 unbuilt e (inr (inl p)) b = subst IsBuilt p.1 b
-unbuilt e (inr (inr p)) b = subst IsBuilt p.1 b
+unbuilt e (inr (inr (inl p))) b = subst IsBuilt p.1 b
+unbuilt e (inr (inr (inr (inl p)))) b = subst IsBuilt p.1 b
+unbuilt e (inr (inr (inr (inr (inl p))))) b = subst IsBuilt p.1 b
+unbuilt e (inr (inr (inr (inr (inr (inl p)))))) b = subst IsBuilt p.2 b
+unbuilt e (inr (inr (inr (inr (inr (inr (inl p))))))) b = subst IsBuilt p.1 b
+unbuilt e (inr (inr (inr (inr (inr (inr (inr p))))))) b = subst IsBuilt p.1 b
 
 pub never_built : (core new : Core) (known : Known) (e : Event) (answer : CoreAnswer) (r : Result CoreAnswer Memory) → r ≡ Ok answer → (IsBuilt e → ⊥)
     → IfOk r (λ answer. IsBuilt e → (c : CoreState) → IsState core c → StandsFor known c.log → Keeps new c e answer)

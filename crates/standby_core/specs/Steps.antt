@@ -28,9 +28,14 @@ TakesNoMemory (event.PopRelease session) = Unit {0}
 TakesNoMemory event.Restart = Unit {0}
 TakesNoMemory other = ⊥
 
--- all events are built but those that read rows: of a population a block and its extent's end, of a scan its next extent
+-- all events are built but those of populations and of scans
 abbrev pub IsBuilt : Event → Type 0
+IsBuilt (event.PopBegin session obj) = ⊥
+IsBuilt (event.PopRegister session) = ⊥
+IsBuilt (event.PopRelease session) = ⊥
 IsBuilt (event.PopRead session) = ⊥
 IsBuilt (event.PopEnd session) = ⊥
+IsBuilt (event.ScanBegin session select) = ⊥
 IsBuilt (event.ScanExtent session) = ⊥
+IsBuilt (event.ScanEnd session) = ⊥
 IsBuilt other = Unit {0}

@@ -200,7 +200,13 @@ impl Session {
         match self {
             Session::Populating(population) => {
                 let extent = population.registered;
-                put_unit(units, population.obj, extent, population.snapshot, population.ticket)?;
+                put_unit(
+                    units,
+                    population.obj,
+                    extent,
+                    population.snapshot,
+                    population.ticket,
+                )?;
                 population.registered = next_extent(extent, population.extents);
                 Ok(())
             }
@@ -278,7 +284,13 @@ fn next_extent(extent: u16, extents: u16) -> u16
 }
 
 /// A unit, not filled, stands for an extent.
-fn put_unit(units: &mut [UnitShard], obj: Obj, extent: u16, snapshot: Scn, ticket: u64) -> Result<(), Memory>
+fn put_unit(
+    units: &mut [UnitShard],
+    obj: Obj,
+    extent: u16,
+    snapshot: Scn,
+    ticket: u64,
+) -> Result<(), Memory>
     requires count { length units.old ≡ 32 }
     requires numbers { (n : ℕ) (s : Units) → At units.old n s → s.number ≡ n }
     ensures unit { OnOk result (IsSetIn (TakesUnit obj extent snapshot ticket) (shard_of_unit obj extent) units.old units.new) }

@@ -11,8 +11,8 @@ use dictionary::Dictionary;
 
 impl Core {
     /// What the core answers to an event, and makes of it. `NotReady` says that the event can't happen
-    /// now, and then nothing changed. A population does not read yet, nor does a scan gather: those
-    /// events are answered `NotReady` in any case.
+    /// now, and then nothing changed. Populations and scans are not built: their events are answered
+    /// `NotReady` in any case.
     pub fn step(&mut self, event: Event, dictionary: &Dictionary) -> Result<CoreAnswer, Memory>
         requires { HasState self.old }
         ensures steps { IfOk result (λ answer. IsBuilt event → (c : CoreState) → IsState self.old c → StandsFor dictionary.now c.log → Keeps self.new c event answer) }
@@ -29,15 +29,15 @@ impl Core {
             Event::Touch { actor } => Ok(self.touch(actor)),
             Event::Done { actor } => Ok(self.done(actor)),
             Event::Publish => Ok(self.publish()),
-            Event::PopBegin { session, obj } => self.pop_begin(session, obj, dictionary),
-            Event::PopRegister { session } => self.pop_register(session),
-            Event::PopRelease { session } => Ok(self.pop_release(session)),
-            Event::ScanBegin { session, select } => self.scan_begin(session, select, dictionary),
-            Event::ScanEnd { session } => self.scan_end(session),
             Event::Restart => Ok(self.restart()),
-            Event::PopRead { .. } | Event::PopEnd { .. } | Event::ScanExtent { .. } => {
-                Ok(CoreAnswer::NotReady)
-            }
+            Event::PopBegin { .. }
+            | Event::PopRegister { .. }
+            | Event::PopRelease { .. }
+            | Event::PopRead { .. }
+            | Event::PopEnd { .. }
+            | Event::ScanBegin { .. }
+            | Event::ScanExtent { .. }
+            | Event::ScanEnd { .. } => Ok(CoreAnswer::NotReady),
         }
     }
 }

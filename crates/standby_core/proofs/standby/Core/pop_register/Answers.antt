@@ -23,13 +23,13 @@ returns-in_err-register_next-clause-err c = at_err c.from_residual.result (λ c'
     let p = c.in-Some.ensures.some.population in
     let found = at_in c.deref.result.now c.deref_mut.result.now c.in-Some.place (Populating p) (c.deref.ensures.value ∙ sym c.deref_mut.ensures.value) c.in-Some.ensures.some.found in
     register_keeps c.args.self.now c' h c.args.session _ _ _
-        (same_left c.args.self.now.sessions c.deref_mut.result.now c.register_next.new.sessions c.deref_mut.ensures.value c.in_err-register_next.ensures.same)
-        (set_in_left KeepsAll c.args.self.now.units _ c.deref_mut-2.result.now c.register_next.new.units c.deref_mut-2.ensures.value (c.in_err-register_next.ensures.kept p found)))
+    (same_left c.args.self.now.sessions c.deref_mut.result.now c.register_next.new.sessions c.deref_mut.ensures.value c.in_err-register_next.ensures.same)
+    (set_in_left KeepsAll c.args.self.now.units _ c.deref_mut-2.result.now c.register_next.new.units c.deref_mut-2.ensures.value (c.in_err-register_next.ensures.kept p found)))
 
 pub returns-clause-ok : goal.returns-clause-ok
 returns-clause-ok c = λ c' h.
     let p = c.in-Some.ensures.some.population in
     let found = at_in c.deref.result.now c.deref_mut.result.now c.in-Some.place (Populating p) (c.deref.ensures.value ∙ sym c.deref_mut.ensures.value) c.in-Some.ensures.some.found in
     register_moves c.args.self.now c' h c.args.session c.in-Some.place c.deref.result.now c.deref.ensures.value c.in-Some.ensures.some _ _
-        (set_left c.args.self.now.sessions c.in-Some.place _ c.deref_mut.result.now c.register_next.new.sessions c.deref_mut.ensures.value (c.in_ok-register_next.ensures.population p found))
-        (set_in_left (TakesUnit p.obj p.registered p.snapshot p.ticket) c.args.self.now.units _ c.deref_mut-2.result.now c.register_next.new.units c.deref_mut-2.ensures.value (c.in_ok-register_next.ensures.unit p found))
+    (set_left c.args.self.now.sessions c.in-Some.place _ c.deref_mut.result.now c.register_next.new.sessions c.deref_mut.ensures.value (c.in_ok-register_next.ensures.population p found))
+    (set_in_left (TakesUnit p.obj p.registered p.snapshot p.ticket) c.args.self.now.units _ c.deref_mut-2.result.now c.register_next.new.units c.deref_mut-2.ensures.value (c.in_ok-register_next.ensures.unit p found))

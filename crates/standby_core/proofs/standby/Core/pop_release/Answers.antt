@@ -19,5 +19,5 @@ pub returns : goal.returns
 returns c = λ c' h. release_moves c.args.self.now c' h c.args.session c.in-Some.place c.deref.result.now c.deref.ensures.value c.in-Some.ensures.some
     _ c.release.new.self
     (set_left c.args.self.now.sessions c.in-Some.place _ c.deref_mut.result.now c.let_go.new.sessions c.deref_mut.ensures.value
-        (c.let_go.ensures c.in-Some.ensures.some.population (at_in c.deref.result.now c.deref_mut.result.now c.in-Some.place (Populating c.in-Some.ensures.some.population) (c.deref.ensures.value ∙ sym c.deref_mut.ensures.value) c.in-Some.ensures.some.found)))
+    (c.let_go.ensures c.in-Some.ensures.some.population (at_in c.deref.result.now c.deref_mut.result.now c.in-Some.place (Populating c.in-Some.ensures.some.population) (c.deref.ensures.value ∙ sym c.deref_mut.ensures.value) c.in-Some.ensures.some.found)))
     c.release.ensures.quiesce c.release.ensures.same

@@ -22,4 +22,4 @@ returns-clause-ok c = λ c' h.
     let within : c.in-Some.place < length c.args.self.now.sessions.items = omega (arith, c.if-place-len.false, c.len.ensures) in
     let at = seat_at c.args.self.now.sessions.items c.in-Some.place c.index_mut.result.now within c.index_mut.ensures.value in
     scan_ends c.args.self.now c' h c.args.session c.in-Some.place c.index_mut.result.now c.take_reply.new.session c.in-Some-2.reply c.in-Some.ensures at c.take_reply.ensures.same
-        (subst (λ (o : Option Reply). IfSome o (EndsWith c.index_mut.result.now)) c.in-Some-2.is c.in_ok-reply.ensures.some)
+    (subst (λ (o : Option Reply). IfSome o (EndsWith c.index_mut.result.now)) c.in-Some-2.is c.in_ok-reply.ensures.some)

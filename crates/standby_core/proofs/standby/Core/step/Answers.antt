@@ -8,7 +8,7 @@ use Rattle.standby_core.specs.Shows.{IsState}
 use Rattle.standby_core.specs.Steps.{IsBuilt, Keeps}
 use Rattle.standby_core.proofs.Stepped.{stepped, unasked, unbuilt, never_built}
 use Rattle.standby_core.proofs.standby.Core.step.Goals as goal
-use Rattle.standby_core.proofs.standby.Core.step.Goals.{in-Apply, in-Mine, in-Raise, in-BeginFlush, in-Claim, in-Collect, in-Touch, in-Done, in-Publish, in-PopBegin, in-PopRegister, in-PopRelease, in-ScanBegin, in-ScanEnd, in-Restart, in-PopRead}
+use Rattle.standby_core.proofs.standby.Core.step.Goals.{in-Apply, in-Mine, in-Raise, in-BeginFlush, in-Claim, in-Collect, in-Touch, in-Done, in-Publish, in-Restart, in-PopBegin}
 
 pub returns-clause-steps : goal.returns-clause-steps
 returns-clause-steps c =
@@ -26,11 +26,6 @@ returns-clause-steps c =
       | in-Touch w ↦ stepped core w.touch.new.self new known c.args.event (event.Touch w.in-Touch.actor) (Ok w.touch.result) r w.self-is w.result-is (let is : c.args.event ≡ (event.Touch w.in-Touch.actor) = search rules in is) (λ c' h k. w.touch.ensures c' h)
       | in-Done w ↦ stepped core w.done.new.self new known c.args.event (event.Done w.in-Done.actor) (Ok w.done.result) r w.self-is w.result-is (let is : c.args.event ≡ (event.Done w.in-Done.actor) = search rules in is) (λ c' h k. w.done.ensures c' h)
       | in-Publish w ↦ stepped core w.publish.new.self new known c.args.event event.Publish (Ok w.publish.result) r w.self-is w.result-is (let is : c.args.event ≡ event.Publish = search rules in is) (λ c' h k. w.publish.ensures c' h)
-      | in-PopBegin w ↦ stepped core w.pop_begin.new.self new known c.args.event (event.PopBegin w.in-PopBegin.session w.in-PopBegin.obj) w.pop_begin.result r w.self-is w.result-is (let is : c.args.event ≡ (event.PopBegin w.in-PopBegin.session w.in-PopBegin.obj) = search rules in is) w.pop_begin.ensures.ok
-      | in-PopRegister w ↦ stepped core w.pop_register.new.self new known c.args.event (event.PopRegister w.in-PopRegister.session) w.pop_register.result r w.self-is w.result-is (let is : c.args.event ≡ (event.PopRegister w.in-PopRegister.session) = search rules in is) (unasked core w.pop_register.new.self known (event.PopRegister w.in-PopRegister.session) w.pop_register.result w.pop_register.ensures.ok)
-      | in-PopRelease w ↦ stepped core w.pop_release.new.self new known c.args.event (event.PopRelease w.in-PopRelease.session) (Ok w.pop_release.result) r w.self-is w.result-is (let is : c.args.event ≡ (event.PopRelease w.in-PopRelease.session) = search rules in is) (λ c' h k. w.pop_release.ensures c' h)
-      | in-ScanBegin w ↦ stepped core w.scan_begin.new.self new known c.args.event (event.ScanBegin w.in-ScanBegin.session w.in-ScanBegin.select) w.scan_begin.result r w.self-is w.result-is (let is : c.args.event ≡ (event.ScanBegin w.in-ScanBegin.session w.in-ScanBegin.select) = search rules in is) w.scan_begin.ensures.ok
-      | in-ScanEnd w ↦ stepped core w.scan_end.new.self new known c.args.event (event.ScanEnd w.in-ScanEnd.session) w.scan_end.result r w.self-is w.result-is (let is : c.args.event ≡ (event.ScanEnd w.in-ScanEnd.session) = search rules in is) (unasked core w.scan_end.new.self known (event.ScanEnd w.in-ScanEnd.session) w.scan_end.result w.scan_end.ensures.ok)
       | in-Restart w ↦ stepped core w.restart.new.self new known c.args.event event.Restart (Ok w.restart.result) r w.self-is w.result-is (let is : c.args.event ≡ event.Restart = search rules in is) (λ c' h k. w.restart.ensures c' h)
-      | in-PopRead w ↦ never_built core new known c.args.event NotReady r w.result-is (unbuilt c.args.event w.in-PopRead.is)
+      | in-PopBegin w ↦ never_built core new known c.args.event NotReady r w.result-is (unbuilt c.args.event w.in-PopBegin.is)
     ]
