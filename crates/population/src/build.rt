@@ -1,4 +1,4 @@
-ghost use Rattle.std.specs.Prelude.{◌≡◌, ◌+◌, ◌*◌, ◌<◌, ◌++◌, [], length, map, take, IfOk, OnOk, OnErr};
+ghost use Rattle.std.specs.Prelude.{◌≡◌, ◌+◌, ◌*◌, ◌^◌, ◌<◌, ◌++◌, [], length, map, take, IfOk, OnOk, OnErr};
 ghost use Rattle.std.specs.List.{range_with_len};
 ghost use Rattle.adg_base.specs.Address.{block_places};
 ghost use Rattle.column_codec.specs.Extent.{AreColumns, placed_rows};
@@ -60,6 +60,36 @@ impl Build {
             blocks: 0,
             rows: Vec::new(alloc),
         })
+    }
+
+    /// How many blocks of the extent are read.
+    pub fn blocks(&self) -> u8
+        ensures { result ≡ self.now.blocks }
+    {
+        self.blocks
+    }
+
+    /// The number of the extent.
+    pub fn extent(&self) -> u16
+        ensures { result ≡ self.now.extent }
+    {
+        self.extent
+    }
+
+    /// The next extent of the object, of which nothing is read.
+    pub fn next(&self) -> Build
+        requires { self.now.extent + 1 < 2 ^ 16 }
+        ensures { result ≡ record { obj = self.now.obj; extent = self.now.extent + 1; snapshot = self.now.snapshot; width = self.now.width; blocks = 0; rows = [] } }
+    {
+        Build {
+            alloc: self.alloc,
+            obj: self.obj,
+            extent: self.extent + 1,
+            snapshot: self.snapshot,
+            width: self.width,
+            blocks: 0,
+            rows: Vec::new(self.alloc),
+        }
     }
 
     /// Takes the rows of the next block.

@@ -25,3 +25,10 @@ pub mod Gathering
 pub mod Collected
 pub mod Marking
 pub mod Touched
+pub mod Scanned
+pub mod ScanLooks
+pub mod Seating
+pub mod UnitSets
+pub mod Releasing
+pub mod Registering
+pub mod Populating

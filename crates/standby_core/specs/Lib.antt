@@ -13,3 +13,5 @@ pub mod Begin
 pub mod Restarting
 pub mod Collecting
 pub mod Touching
+pub mod Scans
+pub mod Populating
