@@ -4,6 +4,8 @@ use Rattle.std.proofs.lemmas.List.{append-nil}
 use Rattle.feed_text.specs.declared.line.Line.{Line}
 use Rattle.feed_text.specs.declared.reason.Reason.{Reason}
 use Rattle.feed_text.specs.declared.reason.Reason.TheVariants.{NoSpelling}
+use Rattle.feed_text.specs.declared.refused.TextRefused.{TextRefused}
+use Rattle.feed_text.specs.declared.refused.TextRefused.TheVariants as refused
 use Rattle.feed_text.specs.Lines.{line_bytes, IsGood}
 use Rattle.feed_text.specs.Reading.{cut}
 use Rattle.feed_text.specs.LineReading.{line_of, split}
@@ -79,3 +81,18 @@ line_adds text old new line read written good = (line_bytes line, record { line 
 
 pub line_breaks : (text : List ℕ) (line : Line) → line_of text ≡ Ok line → (IsGood line → ⊥) → Breaks text NoSpelling
 line_breaks text line read bad = inr (refl, line, read, bad)
+
+-- ---- what a refusal says
+
+abbrev refused_as : {X : Type 0} → ℕ → Reason → Result X TextRefused
+refused_as n reason = Err (refused.Line n reason)
+
+same_number : {X : Type 0} (m n : ℕ) (r s : Reason) → refused_as {X = X} m r ≡ Err (refused.Line n s) → m ≡ n
+same_number m n r s e = cc
+
+same_reason : {X : Type 0} (m n : ℕ) (r s : Reason) → refused_as {X = X} m r ≡ Err (refused.Line n s) → r ≡ s
+same_reason m n r s e = cc
+
+pub breaks_there : {X : Type 0} (text : List ℕ) (m n : ℕ) (r s : Reason) → refused_as {X = X} m r ≡ Err (refused.Line n s) → BreaksAt 1 (split 10 text) m r → BreaksAt 1 (split 10 text) n s
+breaks_there {X = X} text m n r s e h =
+    subst (λ (k : ℕ). BreaksAt 1 (split 10 text) k s) (same_number {X = X} m n r s e) (subst (λ (q : Reason). BreaksAt 1 (split 10 text) m q) (same_reason {X = X} m n r s e) h)

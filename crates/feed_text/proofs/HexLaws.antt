@@ -1,5 +1,5 @@
 -- Bytes in hexadecimal are read again.
-use Rattle.std.proofs.Common.{◌≡◌, ℕ, zero, suc, ◌+◌, ◌-◌, ◌*◌, ◌/◌, ◌%◌, ◌^◌, ◌<◌, ◌≤◌, Bool, true, false, cond, eqb, ltb, List, [], ◌∷◌, ◌++◌, length, Option, Some, None, refl, sym, ap, subst, ◌∙◌, append_assoc, arith, lit<, lit≤}
+use Rattle.std.proofs.Common.{◌≡◌, ℕ, zero, suc, ◌+◌, ◌-◌, ◌*◌, ◌/◌, ◌%◌, ◌^◌, ◌<◌, ◌≤◌, Bool, true, false, cond, eqb, ltb, get_or, List, [], ◌∷◌, ◌++◌, length, Option, Some, None, refl, sym, ap, subst, ◌∙◌, append_assoc, arith, lit<, lit≤}
 use Rattle.std.specs.Prelude.{replicate}
 use Rattle.std.specs.List.{flat_map, AllByRecursion}
 use Rattle.std.specs.Fmt.{decimal}
@@ -140,12 +140,15 @@ runs_spell : (bytes : List ℕ) → flat_map run_bytes (runs bytes) ≡ bytes
 runs_spell [] = refl
 runs_spell (b ∷ bytes) = from_spells (run b 1) bytes
 
+good_step : (r : Run) (c : ℕ) (bytes : List ℕ) (same : Bool) → IsRun r → AllByRecursion IsRun (runs_from (run r.byte (r.count + 1)) bytes) → AllByRecursion IsRun (runs_from (run c 1) bytes)
+    → AllByRecursion IsRun (cond same (runs_from (run r.byte (r.count + 1)) bytes) (r ∷ runs_from (run c 1) bytes))
+good_step r c bytes true good longer others = longer
+good_step r c bytes false good longer others = (good, others)
+
 from_good : (r : Run) (bytes : List ℕ) → r.byte < 2 ^ 8 → 1 ≤ r.count → r.count + length bytes < 2 ^ 64 → IsBytes bytes → AllByRecursion IsRun (runs_from r bytes)
 from_good r [] b one few all = ((b, one, omega arith), tt)
-from_good r (c ∷ bytes) b one few all = cases (eqb c r.byte) where
-    cases : (same : Bool) → AllByRecursion IsRun (cond same (runs_from (run r.byte (r.count + 1)) bytes) (r ∷ runs_from (run c 1) bytes))
-    cases true = from_good (run r.byte (r.count + 1)) bytes b (omega arith) (omega arith) all.1
-    cases false = ((b, one, omega arith), from_good (run c 1) bytes all.0 (omega arith) (omega arith) all.1)
+from_good r (c ∷ bytes) b one few all =
+    good_step r c bytes (eqb c r.byte) (b, one, omega arith) (from_good (run r.byte (r.count + 1)) bytes b (omega arith) (omega arith) all.1) (from_good (run c 1) bytes all.0 (omega arith) (omega arith) all.1)
 
 runs_good : (bytes : List ℕ) → length bytes < 2 ^ 64 → IsBytes bytes → AllByRecursion IsRun (runs bytes)
 runs_good [] few all = tt
@@ -161,3 +164,7 @@ runs_above (r ∷ rs) all = (lit< tt, above_append 10 (run_text r) (runs_text rs
 
 pub hex_above : (bytes : List ℕ) → length bytes < 2 ^ 64 → IsBytes bytes → Above 10 (hex_text bytes)
 hex_above bytes few all = runs_above (runs bytes) (runs_good bytes few all)
+
+pub bytes_all : (bytes : List ℕ) → ((i : ℕ) → get_or bytes i 0 < 2 ^ 8) → IsBytes bytes
+bytes_all [] h = tt
+bytes_all (b ∷ bytes) h = (h 0, bytes_all bytes (λ i. h (suc i)))

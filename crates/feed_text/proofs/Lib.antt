@@ -9,3 +9,4 @@ pub mod Framed
 pub mod HexReading
 pub mod TooLong
 pub mod ReadLaws
+pub mod ListSteps

@@ -1,5 +1,5 @@
 -- Lines that add the bytes of a feed are a text that stands for them.
-use Rattle.std.proofs.Common.{◌≡◌, ℕ, ◌<◌, List, [], ◌∷◌, ◌++◌, Some, codes, refl, sym, ap, subst, ◌∙◌, append_assoc, arith}
+use Rattle.std.proofs.Common.{◌≡◌, ℕ, ◌<◌, ◌^◌, length, lit<, take, drop, take-append-drop, ap₂, List, [], ◌∷◌, ◌++◌, Some, codes, refl, sym, ap, subst, ◌∙◌, append_assoc, arith}
 use Rattle.std.specs.List.{flat_map, AllByRecursion}
 use Rattle.std.proofs.lemmas.List.{append-nil}
 use Rattle.feed_text.specs.declared.line.Line.TheVariants.{Nothing, Raw}
@@ -100,3 +100,24 @@ shown_whole out0 out1 out2 out3 out4 feed front behind rest empty f note more la
 
 pub added_line : (old mid new line : List ℕ) → mid ≡ old ++ line → new ≡ mid ++ 10 ∷ [] → new ≡ old ++ (line ++ 10 ∷ [])
 added_line old mid new line p q = q ∙ ap (λ (l : List ℕ). l ++ 10 ∷ []) p ∙ append_assoc old line (10 ∷ [])
+
+pub raw_line : (bytes : List ℕ) → length bytes < 2 ^ 64 → IsBytes bytes → IsLine (codes "bytes" ++ hex_text bytes)
+raw_line bytes few all = (lit< tt, (lit< tt, (lit< tt, (lit< tt, (lit< tt, hex_above bytes few all)))))
+
+pub raw_text : (bytes empty text slice : List ℕ) → slice ≡ text → text ≡ empty ++ (codes "bytes" ++ hex_text bytes) → empty ≡ [] → slice ≡ codes "bytes" ++ hex_text bytes
+raw_text bytes empty text slice s t e = s ∙ t ∙ ap (λ (l : List ℕ). l ++ (codes "bytes" ++ hex_text bytes)) e
+
+pub raw_adds_again : (bytes slice : List ℕ) → length bytes < 2 ^ 64 → IsBytes bytes → slice ≡ codes "bytes" ++ hex_text bytes → Adds slice bytes
+raw_adds_again bytes slice few all same = subst (λ (l : List ℕ). Adds l bytes) (sym same) (raw_adds bytes (hex_again bytes few all))
+
+pub raw_is_line : (bytes slice : List ℕ) → length bytes < 2 ^ 64 → IsBytes bytes → slice ≡ codes "bytes" ++ hex_text bytes → IsLine slice
+raw_is_line bytes slice few all same = subst IsLine (sym same) (raw_line bytes few all)
+
+pub comment_line : (comment slice : List ℕ) → IsLine comment → slice ≡ codes "# " ++ comment → IsLine slice
+comment_line comment slice h same = subst IsLine (sym same) (lit< tt, (lit< tt, h))
+
+pub comment_added : (comment slice : List ℕ) → slice ≡ codes "# " ++ comment → Adds slice []
+comment_added comment slice same = subst (λ (l : List ℕ). Adds l []) (sym same) (comment_adds (32 ∷ comment))
+
+pub split_parts : (n : ℕ) (bytes front behind : List ℕ) → front ≡ take n bytes → behind ≡ drop n bytes → bytes ≡ front ++ behind
+split_parts n bytes front behind f b = sym (ap₂ (λ (x y : List ℕ). x ++ y) f b ∙ take-append-drop n bytes)

@@ -81,8 +81,8 @@ pub fn some_records(alloc: Global, text: &[u8]) -> Result<(Vec<RedoRecord>, &[u8
             return Ok((records, rest));
         };
         match record_of(alloc, inside) {
-            Ok((record, after)) => {
-                records.push(record)?;
+            Ok((redo, after)) => {
+                records.push(redo)?;
                 rest = after;
             }
             Err(unread) => return Err(unread),

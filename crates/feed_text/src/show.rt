@@ -21,6 +21,9 @@ const OPENING_LEN: usize = 15;
 /// How long the tag and the length of a frame are.
 const HEAD_LEN: usize = 5;
 
+/// The most bytes for which a line of bytes has room at first.
+const FIRST_ROOM: usize = 65_536;
+
 /// Whether a text is one line.
 fn is_line(text: &[u8]) -> bool
     ensures { IsTrue result → IsLine text.now }
@@ -64,7 +67,7 @@ fn stands_for(alloc: Global, text: &[u8], bytes: &[u8]) -> Result<bool, Memory>
 fn put_raw_line(alloc: Global, out: &mut Vec<u8>, bytes: &[u8]) -> Result<(), Memory>
     ensures { OnOk result (Grows out.old.items out.new.items bytes.now) }
 {
-    let mut text = Vec::new(alloc);
+    let mut text = Vec::with_capacity(alloc, bytes.len().min(FIRST_ROOM))?;
     put_raw(&mut text, alloc, b"bytes", bytes)?;
     put_ended(out, text.as_slice())?;
     Ok(())
@@ -124,7 +127,8 @@ fn put_front<'a>(alloc: Global, out: &mut Vec<u8>, bytes: &'a [u8]) -> Result<&'
     }
     let (opening, frames) = bytes.split_at(OPENING_LEN);
     put_piece(alloc, out, opening)?;
-    put_frames(alloc, out, frames)
+    let rest = put_frames(alloc, out, frames)?;
+    Ok(rest)
 }
 
 /// Adds a line of bytes, where there are some.
@@ -145,16 +149,18 @@ fn put_note(alloc: Global, out: &mut Vec<u8>, fault: Option<FeedFault>) -> Resul
         return Ok(());
     };
     let text = format!(in alloc; "feed refused: {kind:?} at byte {byte}")?;
-    put_comment(alloc, out, text.as_bytes())
+    if is_line(text.as_bytes()) {
+        put_comment(alloc, out, text.as_bytes())
+    } else {
+        Ok(())
+    }
 }
 
-/// Adds a comment, where it is one line.
+/// Adds a comment of one line.
 fn put_comment(alloc: Global, out: &mut Vec<u8>, comment: &[u8]) -> Result<(), Memory>
+    requires { IsLine comment.now }
     ensures { OnOk result (Grows out.old.items out.new.items []) }
 {
-    if !is_line(comment) {
-        return Ok(());
-    }
     let mut text = Vec::from_slice(alloc, b"# ")?;
     text.extend_from_slice(comment)?;
     put_ended(out, text.as_slice())?;

@@ -184,6 +184,19 @@ fn put_create(
     put_columns(out, columns)
 }
 
+fn put_column(
+    out: &mut Vec<u8>,
+    alloc: Global,
+    obj: Obj,
+    kind: ColKind,
+) -> Result<(), AllocError>
+    ensures { OnOk result (out.new.items ≡ out.old.items ++ vector_text (Vector.AddColumn obj kind)) }
+{
+    put_obj(out, alloc, b"AddColumn t", obj)?;
+    out.extend_from_slice(b" ")?;
+    out.extend_from_slice(kind_word(kind))
+}
+
 fn put_vector(out: &mut Vec<u8>, alloc: Global, vector: &Vector) -> Result<(), AllocError>
     ensures { OnOk result (out.new.items ≡ out.old.items ++ vector_text vector.now) }
 {
@@ -223,11 +236,7 @@ fn put_vector(out: &mut Vec<u8>, alloc: Global, vector: &Vector) -> Result<(), A
             columns,
         } => put_create(out, alloc, *obj, *extents, *flag, columns.as_slice())?,
         Vector::DropObject { obj } => put_obj(out, alloc, b"DropObject t", *obj)?,
-        Vector::AddColumn { obj, kind } => {
-            put_obj(out, alloc, b"AddColumn t", *obj)?;
-            out.extend_from_slice(b" ")?;
-            out.extend_from_slice(kind_word(*kind))?;
-        }
+        Vector::AddColumn { obj, kind } => put_column(out, alloc, *obj, *kind)?,
         Vector::NoInMemory { obj } => put_obj(out, alloc, b"NoInMemory t", *obj)?,
         Vector::EndThread => out.extend_from_slice(b"EndThread")?,
     }

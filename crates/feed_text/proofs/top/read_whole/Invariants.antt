@@ -2,8 +2,8 @@ use Rattle.std.proofs.Common.{◌≡◌, length}
 use Rattle.std.specs.Io.KnownBytes.{Consumes}
 use Rattle.feed_text.proofs.top.read_whole.Given as goal
 
-abbrev pub invariant-loop-piece : goal.invariant-loop-piece
-invariant-loop-piece g l = record {
+abbrev pub invariant-loop : goal.invariant-loop
+invariant-loop g l = record {
   taken : Consumes (g.R.Source.left l.initial.source) (g.R.Source.left l.source) l.bytes.items;
   cause : g.R.Source.faults l.source ≡ g.R.Source.faults l.initial.source;
 }

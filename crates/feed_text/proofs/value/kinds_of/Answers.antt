@@ -7,11 +7,11 @@ use Rattle.feed_text.proofs.value.kinds_of.Goals as goal
 
 pub returns-in_err-first : goal.returns-in_err-first
 returns-in_err-first c =
-    let p = err_from_is_err_and c.from_residual-in_err-first.result c.from_residual-in_err-first.ensures.1 in
+    let p = err_from_is_err_and c.from_residual.result c.from_residual.ensures.1 in
     rw (p.1, p.2) (none_begins kind_at (codes ", ") 15 c.args.text.now Bad c.in_err-first.ensures)
 
 pub loop-init : goal.loop-init
-loop-init c = rw (c.in_ok-push.ensures.items, c.new.ensures.items) (begins kind_at (codes ", ") 15 c.args.text.now c.in_ok-first.first c.in_ok-first.after.now c.in_ok-first.ensures)
+loop-init c = rw (c.in_ok-push.ensures.items, c.new-kinds.ensures.items) (begins kind_at (codes ", ") 15 c.args.text.now c.in_ok-first.first c.in_ok-first.after.now c.in_ok-first.ensures)
 
 pub returns-in_default : goal.returns-in_default
 returns-in_default c = stops kind_at (codes ", ") c.loop.kinds.items 15 c.loop.counter c.loop.rest.now (list_at kind_at (codes ", ") 15 c.args.text.now) c.loop-test.true c.in_default.ensures c.loop.invariant
