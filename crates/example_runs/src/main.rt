@@ -79,8 +79,10 @@ fn has_its_text<H: Files + Alloc<A = Global>>(rt: &H, name: &str) -> io::Result<
     let Ok(shown) = show(alloc, feed.as_slice()) else {
         return Err(ErrorKind::OutOfMemory.into());
     };
-    Ok(stands_for(alloc, text.as_slice(), feed.as_slice())
-        && stands_for(alloc, shown.as_slice(), feed.as_slice()))
+    Ok(
+        stands_for(alloc, text.as_slice(), feed.as_slice())
+            && stands_for(alloc, shown.as_slice(), feed.as_slice()),
+    )
 }
 
 fn main(rt: HostRuntime) -> io::Result<()> {

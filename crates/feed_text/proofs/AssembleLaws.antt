@@ -26,10 +26,10 @@ next_line text feed new rest line more before bytes so_far parts less adds is =
     let here : split 10 rest ≡ line ∷ split 10 more = split_cut 10 rest ∙ ap (parts_of 10) parts in
     record {
       adds = λ others h.
-        let joined : feed ++ (bytes ++ others) ≡ new ++ others = sym (append_assoc feed bytes others) ∙ ap (λ (l : List ℕ). l ++ others) (sym is) in
-        subst (λ (l : List ℕ). Assembles text l) joined (so_far.adds (bytes ++ others) (subst (λ (ls : List (List ℕ)). AddAll ls (bytes ++ others)) (sym here) (bytes, others, refl, adds, h)));
+          let joined : feed ++ (bytes ++ others) ≡ new ++ others = sym (append_assoc feed bytes others) ∙ ap (λ (l : List ℕ). l ++ others) (sym is) in
+          subst (λ (l : List ℕ). Assembles text l) joined (so_far.adds (bytes ++ others) (subst (λ (ls : List (List ℕ)). AddAll ls (bytes ++ others)) (sym here) (bytes, others, refl, adds, h)));
       breaks = λ number reason h.
-        so_far.breaks number reason (subst (λ (ls : List (List ℕ)). BreaksAt (before + 1) ls number reason) (sym here) (inr (bytes, adds, h)));
+          so_far.breaks number reason (subst (λ (ls : List (List ℕ)). BreaksAt (before + 1) ls number reason) (sym here) (inr (bytes, adds, h)));
       few = let f = so_far.few in omega arith;
     }
 

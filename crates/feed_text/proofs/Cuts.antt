@@ -44,7 +44,7 @@ cut_on sep at text total lt other so_far =
     let here : cut sep (drop at text) ≡ (get_or text at 0 ∷ (cut sep (drop (at + 1) text)).0, (cut sep (drop (at + 1) text)).1) = ap (cut sep) (at_here at text lt) ∙ rw e refl in
     let front : take (at + 1) text ≡ take at text ++ get_or text at 0 ∷ [] = take_more text at 0 lt in
     let joined : take (at + 1) text ++ (cut sep (drop (at + 1) text)).0 ≡ take at text ++ (get_or text at 0 ∷ (cut sep (drop (at + 1) text)).0) =
-      ap (λ (l : List ℕ). l ++ (cut sep (drop (at + 1) text)).0) front ∙ append_assoc (take at text) (get_or text at 0 ∷ []) (cut sep (drop (at + 1) text)).0 in
+    ap (λ (l : List ℕ). l ++ (cut sep (drop (at + 1) text)).0) front ∙ append_assoc (take at text) (get_or text at 0 ∷ []) (cut sep (drop (at + 1) text)).0 in
     ap (λ (l : List ℕ). (l, (cut sep (drop (at + 1) text)).1)) joined ∙ ap (onto (take at text)) (sym here) ∙ so_far
 
 pub cut_here : (sep at : ℕ) (text : List ℕ) (total : List ℕ × Option (List ℕ)) → at < length text → get_or text at 0 ≡ sep → onto (take at text) (cut sep (drop at text)) ≡ total → (take at text, Some (drop (at + 1) text)) ≡ total

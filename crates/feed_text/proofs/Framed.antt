@@ -8,6 +8,6 @@ unfolding frame
 framed o a b c d front payload tag len ea eb ec ed is =
     let size : len ≡ length (front ++ payload) = is ∙ sym (length-append front payload) in
     let all : d ≡ (((o ++ tag ∷ []) ++ to_be_bytes w32 len) ++ front) ++ payload =
-      ed ∙ ap (λ (l : List ℕ). l ++ payload) (ec ∙ ap (λ (l : List ℕ). l ++ front) (eb ∙ ap (λ (l : List ℕ). l ++ to_be_bytes w32 len) ea)) in
+    ed ∙ ap (λ (l : List ℕ). l ++ payload) (ec ∙ ap (λ (l : List ℕ). l ++ front) (eb ∙ ap (λ (l : List ℕ). l ++ to_be_bytes w32 len) ea)) in
     let flat : (((o ++ tag ∷ []) ++ to_be_bytes w32 len) ++ front) ++ payload ≡ o ++ (tag ∷ (to_be_bytes w32 len ++ (front ++ payload))) = simp append_assoc in
     all ∙ flat ∙ ap (λ (n : ℕ). o ++ (tag ∷ (to_be_bytes w32 n ++ (front ++ payload)))) size

@@ -72,9 +72,9 @@ run_again r good =
 
 digit_above : (n : ℕ) → 47 < hex_digit n
 digit_above n = cases (ltb n 10) where
-    cases : (small : Bool) → 47 < cond small (48 + n) (87 + n)
-    cases true = omega arith
-    cases false = omega arith
+  cases : (small : Bool) → 47 < cond small (48 + n) (87 + n)
+  cases true = omega arith
+  cases false = omega arith
 
 pub above_append : (low : ℕ) (xs ys : List ℕ) → Above low xs → Above low ys → Above low (xs ++ ys)
 above_append low [] ys h k = k

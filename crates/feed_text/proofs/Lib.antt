@@ -10,3 +10,4 @@ pub mod HexReading
 pub mod TooLong
 pub mod ReadLaws
 pub mod ListSteps
+pub mod RunLaws

@@ -67,7 +67,7 @@ lines_add : (lines : List (List ℕ)) (bytes : List ℕ) → AllByRecursion IsLi
 lines_add [] bytes each h = ([], [], h, nothing_adds, refl)
 lines_add (line ∷ lines) bytes each h =
     let parts : split 10 ((line ++ 10 ∷ []) ++ lines_text lines) ≡ line ∷ split 10 (lines_text lines) =
-      ap (split 10) (append_assoc line (10 ∷ []) (lines_text lines)) ∙ split_part 10 line (lines_text lines) each.0 in
+    ap (split 10) (append_assoc line (10 ∷ []) (lines_text lines)) ∙ split_part 10 line (lines_text lines) each.0 in
     subst (λ (ls : List (List ℕ)). AddAll ls bytes) (sym parts) (h.0, h.1, h.2, h.3, lines_add lines h.1 each.1 h.4)
 
 pub shown_assembles : (text bytes : List ℕ) → Shows text bytes → Assembles text bytes
@@ -95,7 +95,7 @@ shown_whole out0 out1 out2 out3 out4 feed front behind rest empty f note more la
     let start : Shows out0 [] = subst (λ (l : List ℕ). Shows l []) (sym empty) nothing_shown in
     let all : Shows out4 (((f.front ++ []) ++ rest) ++ behind) = last ((f.front ++ []) ++ rest) (more (f.front ++ []) (note f.front (f.grows [] start))) in
     let same : ((f.front ++ []) ++ rest) ++ behind ≡ feed =
-      ap (λ (l : List ℕ). (l ++ rest) ++ behind) (append-nil f.front) ∙ ap (λ (l : List ℕ). l ++ behind) (sym f.parts) ∙ sym parts in
+    ap (λ (l : List ℕ). (l ++ rest) ++ behind) (append-nil f.front) ∙ ap (λ (l : List ℕ). l ++ behind) (sym f.parts) ∙ sym parts in
     shown_assembles out4 feed (subst (λ (l : List ℕ). Shows out4 l) same all)
 
 pub added_line : (old mid new line : List ℕ) → mid ≡ old ++ line → new ≡ mid ++ 10 ∷ [] → new ≡ old ++ (line ++ 10 ∷ [])

@@ -70,3 +70,11 @@ RunEnds turn left left_now held held_now Refused = Keeps held held_now
 RunEnds turn left left_now held held_now SourceFailed = Keeps held held_now
 RunEnds turn left left_now held held_now NoMemory = Keeps held held_now
 RunEnds turn left left_now held held_now SinkFailed = Unit {0}
+
+-- the endings of a run that writes a line which tells why nothing was turned
+abbrev pub IsTold : Ended → Type 0
+IsTold Done = ⊥
+IsTold Refused = Unit {0}
+IsTold SourceFailed = ⊥
+IsTold SinkFailed = Unit {0}
+IsTold NoMemory = Unit {0}

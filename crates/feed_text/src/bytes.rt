@@ -4,7 +4,6 @@ ghost use Rattle.std.specs.Prelude.{◌≡◌, ◌++◌, ◌∷◌, [], Err, OnO
 ghost use Rattle.std.specs.List.{flat_map, AllByRecursion};
 ghost use Rattle.adg_model.specs.Feed.{frame};
 ghost use Rattle.adg_model.specs.Records.{record_bytes, IsRecord};
-
 ghost use Rattle.feed_text.specs.Lines.{line_bytes, IsGood, Fits};
 
 use crate::line::Line;
@@ -16,12 +15,7 @@ use std::alloc::{AllocError, Global};
 
 /// Adds a frame whose payload is two pieces.
 #[tactic(auto, unfolding(adg_model::specs::Feed::frame))]
-fn put_frame(
-    out: &mut Vec<u8>,
-    tag: u8,
-    front: &[u8],
-    payload: &[u8],
-) -> Result<(), Unread>
+fn put_frame(out: &mut Vec<u8>, tag: u8, front: &[u8], payload: &[u8]) -> Result<(), Unread>
     ensures written { OnOk result (out.new.items ≡ out.old.items ++ frame tag (front.now ++ payload.now)) }
     ensures good { OnOk result (Fits (front.now ++ payload.now)) }
     ensures bad { result ≡ Err Unread.Bad → Fits (front.now ++ payload.now) → ⊥ }

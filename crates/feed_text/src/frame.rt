@@ -72,12 +72,7 @@ fn redo_in(alloc: Global, thread: u8, redo: &[u8]) -> Result<Line, Memory> {
 }
 
 /// What a frame of a command says: the command, where all its bytes can be printed.
-fn command_in(
-    alloc: Global,
-    session: u8,
-    command: &[u8],
-    frame: &[u8],
-) -> Result<Line, Memory> {
+fn command_in(alloc: Global, session: u8, command: &[u8], frame: &[u8]) -> Result<Line, Memory> {
     if command.iter().all(|byte| *byte >= b' ' && *byte <= b'~') {
         let text = Bytes::from_slice(alloc, command)?;
         return Ok(Line::Command { session, text });

@@ -10,35 +10,19 @@ pub enum Line {
     /// An empty line, or one that begins with `#`.
     Nothing,
     /// The magic and the header.
-    Opening {
-        threads: u8,
-        sessions: u8,
-    },
+    Opening { threads: u8, sessions: u8 },
     /// Records of a thread in one frame.
-    Records {
-        thread: u8,
-        records: RecordList,
-    },
+    Records { thread: u8, records: RecordList },
     /// Redo bytes of a thread in one frame.
-    Redo {
-        thread: u8,
-        bytes: Bytes,
-    },
+    Redo { thread: u8, bytes: Bytes },
     /// A command of a session.
-    Command {
-        session: u8,
-        text: Bytes,
-    },
+    Command { session: u8, text: Bytes },
     /// Schedule bytes in one frame.
-    Schedule {
-        bytes: Bytes,
-    },
+    Schedule { bytes: Bytes },
     /// The end of a delivery.
     End,
     /// The end of the feed.
     Stop,
     /// Bytes as they are.
-    Raw {
-        bytes: Bytes,
-    },
+    Raw { bytes: Bytes },
 }

@@ -103,11 +103,7 @@ fn frame_in(bytes: &[u8]) -> Option<(&[u8], &[u8])>
 }
 
 /// Adds the lines of the whole frames in front, and gives the bytes behind them.
-fn put_frames<'a>(
-    alloc: Global,
-    out: &mut Vec<u8>,
-    bytes: &'a [u8],
-) -> Result<&'a [u8], Memory>
+fn put_frames<'a>(alloc: Global, out: &mut Vec<u8>, bytes: &'a [u8]) -> Result<&'a [u8], Memory>
     ensures { IfOk result (λ rest. ShowsFront out.old.items out.new.items bytes.now rest.now) }
 {
     let mut rest = bytes;

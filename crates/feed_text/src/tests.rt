@@ -111,21 +111,73 @@ fn names_the_line_that_breaks_the_notation(rt: HostRuntime) {
             Ok(_) => None,
             Err(refused) => Some(refused),
         };
-        assert_eq!(rt; refused, Some(TextRefused::Line { number, reason }), "{text}");
+        assert_eq!(rt;
+            refused,
+            Some(TextRefused::Line { number, reason }),
+            "{text}"
+        );
     }
 }
 
 /// Bytes that are no whole feed, by how long they are and what is another byte, and the line that
 /// names the fault.
 const DAMAGES: [(&str, usize, usize, u8, &str); 8] = [
-    ("nothing", 0, 0, b'I', "# feed refused: Truncated at byte 0\n"),
-    ("a magic", 139, 0, b'J', "# feed refused: BadMagic at byte 0\n"),
-    ("no header", 139, 8, b'R', "# feed refused: BadOrder at byte 8\n"),
-    ("a cut", 120, 0, b'I', "# feed refused: Truncated at byte 120\n"),
-    ("a tag", 139, 98, b'Z', "# feed refused: BadTag at byte 98\n"),
-    ("a session", 139, 108, 2, "# feed refused: BadSession at byte 103\n"),
-    ("a thread", 139, 20, 2, "# feed refused: BadThread at byte 15\n"),
-    ("a stop", 139, 98, b'X', "# feed refused: BadOrder at byte 98\n"),
+    (
+        "nothing",
+        0,
+        0,
+        b'I',
+        "# feed refused: Truncated at byte 0\n",
+    ),
+    (
+        "a magic",
+        139,
+        0,
+        b'J',
+        "# feed refused: BadMagic at byte 0\n",
+    ),
+    (
+        "no header",
+        139,
+        8,
+        b'R',
+        "# feed refused: BadOrder at byte 8\n",
+    ),
+    (
+        "a cut",
+        120,
+        0,
+        b'I',
+        "# feed refused: Truncated at byte 120\n",
+    ),
+    (
+        "a tag",
+        139,
+        98,
+        b'Z',
+        "# feed refused: BadTag at byte 98\n",
+    ),
+    (
+        "a session",
+        139,
+        108,
+        2,
+        "# feed refused: BadSession at byte 103\n",
+    ),
+    (
+        "a thread",
+        139,
+        20,
+        2,
+        "# feed refused: BadThread at byte 15\n",
+    ),
+    (
+        "a stop",
+        139,
+        98,
+        b'X',
+        "# feed refused: BadOrder at byte 98\n",
+    ),
 ];
 
 /// Whether some bytes stand in others.

@@ -115,11 +115,7 @@ fn put_other_kinds(out: &mut Vec<u8>, kinds: &[ColKind]) -> Result<(), AllocErro
     Ok(())
 }
 
-fn put_some_kinds(
-    out: &mut Vec<u8>,
-    first: ColKind,
-    others: &[ColKind],
-) -> Result<(), AllocError>
+fn put_some_kinds(out: &mut Vec<u8>, first: ColKind, others: &[ColKind]) -> Result<(), AllocError>
     ensures { OnOk result (out.new.items ≡ out.old.items ++ bracketed kind_text (first ∷ others.now)) }
 {
     out.extend_from_slice(b" (")?;
@@ -184,12 +180,7 @@ fn put_create(
     put_columns(out, columns)
 }
 
-fn put_column(
-    out: &mut Vec<u8>,
-    alloc: Global,
-    obj: Obj,
-    kind: ColKind,
-) -> Result<(), AllocError>
+fn put_column(out: &mut Vec<u8>, alloc: Global, obj: Obj, kind: ColKind) -> Result<(), AllocError>
     ensures { OnOk result (out.new.items ≡ out.old.items ++ vector_text (Vector.AddColumn obj kind)) }
 {
     put_obj(out, alloc, b"AddColumn t", obj)?;
@@ -243,11 +234,7 @@ fn put_vector(out: &mut Vec<u8>, alloc: Global, vector: &Vector) -> Result<(), A
     Ok(())
 }
 
-fn put_other_vectors(
-    out: &mut Vec<u8>,
-    alloc: Global,
-    vectors: &[Vector],
-) -> Result<(), AllocError>
+fn put_other_vectors(out: &mut Vec<u8>, alloc: Global, vectors: &[Vector]) -> Result<(), AllocError>
     ensures { OnOk result (out.new.items ≡ out.old.items ++ flat_map (λ w. codes "; " ++ vector_text w) vectors.now) }
 {
     for vector in vectors {

@@ -4,7 +4,7 @@
 ghost use Rattle.std.specs.Prelude.{◌≡◌, ◌≢◌, ◌⊎◌, ◌++◌, List, ℕ, Ok, Err, map, string_bytes, IfOk, OnOk};
 ghost use Rattle.std.specs.Io.KnownBytes.{Appends, Consumes, IsAtEnd};
 ghost use Rattle.adg_io.specs.Faults.{Rose};
-ghost use Rattle.feed_text.specs.Run.{RunEnds, TurnEnds, code_of, turn_of, reason_text};
+ghost use Rattle.feed_text.specs.Run.{RunEnds, TurnEnds, IsTold, code_of, turn_of, reason_text};
 
 use crate::assemble::assemble;
 use crate::reason::Reason;
@@ -153,12 +153,7 @@ fn write_and_end<K: Sink>(sink: &mut K, piece: &[u8], ended: Ended) -> Ended
 }
 
 /// Writes the feed that a text stands for, or the line and the reason why it stands for none.
-fn assemble_to<K: Sink, E: Sink>(
-    alloc: Global,
-    text: &[u8],
-    sink: &mut K,
-    errors: &mut E,
-) -> Ended
+fn assemble_to<K: Sink, E: Sink>(alloc: Global, text: &[u8], sink: &mut K, errors: &mut E) -> Ended
     ensures ends { TurnEnds Turn.Assemble text.now (K.held sink.old) (K.held sink.new) result }
 {
     match assemble(alloc, text) {
@@ -170,7 +165,7 @@ fn assemble_to<K: Sink, E: Sink>(
 
 /// Writes why a line of a text is refused.
 fn refuse_line<E: Sink>(alloc: Global, errors: &mut E, number: u64, reason: Reason) -> Ended
-    ensures { result ≢ Ended.Done }
+    ensures { IsTold result }
 {
     let words = words_of(reason);
     match format!(in alloc; "line {number}: {words}\n") {

@@ -18,9 +18,12 @@ returns-in-None-clause-assembled c =
 
 pub returns-in-None-clause-only : goal.returns-in-None-clause-only
 returns-in-None-clause-only c =
-    λ bytes h. (add_one (split 10 c.args.text.now) _ bytes
-    (last_line c.args.text.now c.loop-reason.feed.items c.add_line.new.out.items c.loop-reason.rest.now c.cut.result.0.now c.loop-reason.before c.in-Ok.ensures.0 c.loop-reason.invariant
-    (sym (rw c.in-None.is at c.cut.ensures.parts)) c.in-Ok.ensures.1 c.in-Ok.ensures.2) h, λ number reason e. cc)
+    λ bytes h. (
+      add_one (split 10 c.args.text.now) _ bytes
+          (last_line c.args.text.now c.loop-reason.feed.items c.add_line.new.out.items c.loop-reason.rest.now c.cut.result.0.now c.loop-reason.before c.in-Ok.ensures.0 c.loop-reason.invariant
+          (sym (rw c.in-None.is at c.cut.ensures.parts)) c.in-Ok.ensures.1 c.in-Ok.ensures.2) h,
+      λ number reason e. cc,
+    )
 
 pub returns-in-Err-Broken-clause-refused : goal.returns-in-Err-Broken-clause-refused
 returns-in-Err-Broken-clause-refused c =
@@ -29,5 +32,8 @@ returns-in-Err-Broken-clause-refused c =
 
 pub returns-in-Err-Broken-clause-only : goal.returns-in-Err-Broken-clause-only
 returns-in-Err-Broken-clause-only c =
-    λ bytes h. (tt, λ number reason e. none_breaks 1 (split 10 c.args.text.now) bytes (c.loop-reason.before + 1) c.in-Err-Broken.reason h
-    (broken_line c.args.text.now c.loop-reason.feed.items c.loop-reason.rest.now c.cut.result.0.now _ c.loop-reason.before c.in-Err-Broken.reason c.loop-reason.invariant (sym c.cut.ensures.parts) (rw c.in-Err-Broken.field-0-is at c.in-Err-Broken.ensures)))
+    λ bytes h. (
+      tt,
+      λ number reason e. none_breaks 1 (split 10 c.args.text.now) bytes (c.loop-reason.before + 1) c.in-Err-Broken.reason h
+          (broken_line c.args.text.now c.loop-reason.feed.items c.loop-reason.rest.now c.cut.result.0.now _ c.loop-reason.before c.in-Err-Broken.reason c.loop-reason.invariant (sym c.cut.ensures.parts) (rw c.in-Err-Broken.field-0-is at c.in-Err-Broken.ensures)),
+    )
