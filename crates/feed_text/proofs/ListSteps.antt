@@ -20,3 +20,7 @@ all_snoc P (y ∷ ys) x h p = (h.0, all_snoc P ys x h.1 p)
 
 pub all_more : {X : Type 0} (P : X → Type 0) (xs : List X) (i : ℕ) (x : X) → i < length xs → x ≡ get_or xs i x → AllByRecursion P (take i xs) → P x → AllByRecursion P (take (i + 1) xs)
 all_more {X = X} P xs i x lt is h p = subst (λ (l : List X). AllByRecursion P l) (sym (taken xs i x lt is)) (all_snoc P (take i xs) x h p)
+
+-- three pieces that were added
+pub in_three : (o a b c p q r : List ℕ) → a ≡ o ++ p → b ≡ a ++ q → c ≡ b ++ r → c ≡ o ++ ((p ++ q) ++ r)
+in_three o a b c p q r ea eb ec = ec ∙ ap (λ (l : List ℕ). l ++ r) (eb ∙ ap (λ (l : List ℕ). l ++ q) ea) ∙ simp append_assoc

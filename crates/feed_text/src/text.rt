@@ -185,7 +185,8 @@ fn put_column(out: &mut Vec<u8>, alloc: Global, obj: Obj, kind: ColKind) -> Resu
 {
     put_obj(out, alloc, b"AddColumn t", obj)?;
     out.extend_from_slice(b" ")?;
-    out.extend_from_slice(kind_word(kind))
+    out.extend_from_slice(kind_word(kind))?;
+    Ok(())
 }
 
 fn put_vector(out: &mut Vec<u8>, alloc: Global, vector: &Vector) -> Result<(), AllocError>

@@ -93,15 +93,21 @@ fn read_piece<R: Source>(
     Ok(filled.ending)
 }
 
+/// Room for a piece.
+fn new_piece(alloc: Global) -> Result<Vec<u8>, AllocError> {
+    vec![in alloc; 0; PIECE_LEN]
+}
+
 /// All that a source has.
 fn read_whole<R: Source>(alloc: Global, source: &mut R) -> Result<Vec<u8>, NotRead>
     ensures read { IfOk result (λ bytes. Consumes (R.left source.old) (R.left source.new) bytes.items × IsAtEnd (R.left source.new)) }
     ensures failed { result ≡ Err NotRead.Failed → Rose (R.faults source.old) (R.faults source.new) }
 {
     let mut bytes = Vec::new(alloc);
-    let mut piece = vec![in alloc; 0; PIECE_LEN]?;
+    let mut piece = new_piece(alloc)?;
     for _ in 0..u64::MAX {
-        match read_piece(source, &mut bytes, piece.as_mut_slice())? {
+        let ended = read_piece(source, &mut bytes, piece.as_mut_slice())?;
+        match ended {
             FillEnd::Whole => {}
             FillEnd::AtEnd => return Ok(bytes),
             FillEnd::Failed => return Err(NotRead::Failed),
@@ -154,7 +160,7 @@ fn write_and_end<K: Sink>(sink: &mut K, piece: &[u8], ended: Ended) -> Ended
 
 /// Writes the feed that a text stands for, or the line and the reason why it stands for none.
 fn assemble_to<K: Sink, E: Sink>(alloc: Global, text: &[u8], sink: &mut K, errors: &mut E) -> Ended
-    ensures ends { TurnEnds Turn.Assemble text.now (K.held sink.old) (K.held sink.new) result }
+    ensures { TurnEnds Turn.Assemble text.now (K.held sink.old) (K.held sink.new) result }
 {
     match assemble(alloc, text) {
         Ok(feed) => write_and_end(sink, feed.as_slice(), Ended::Done),
@@ -176,7 +182,7 @@ fn refuse_line<E: Sink>(alloc: Global, errors: &mut E, number: u64, reason: Reas
 
 /// Writes the text of a feed.
 fn show_to<K: Sink>(alloc: Global, feed: &[u8], sink: &mut K) -> Ended
-    ensures ends { TurnEnds Turn.Show feed.now (K.held sink.old) (K.held sink.new) result }
+    ensures { TurnEnds Turn.Show feed.now (K.held sink.old) (K.held sink.new) result }
 {
     match show(alloc, feed) {
         Ok(text) => write_and_end(sink, text.as_slice(), Ended::Done),

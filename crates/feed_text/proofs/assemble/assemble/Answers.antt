@@ -27,8 +27,8 @@ returns-in-None-clause-only c =
 
 pub returns-in-Err-Broken-clause-refused : goal.returns-in-Err-Broken-clause-refused
 returns-in-Err-Broken-clause-refused c =
-    λ number reason e. breaks_there c.args.text.now (c.loop-reason.before + 1) number c.in-Err-Broken.reason reason e
-    (broken_line c.args.text.now c.loop-reason.feed.items c.loop-reason.rest.now c.cut.result.0.now _ c.loop-reason.before c.in-Err-Broken.reason c.loop-reason.invariant (sym c.cut.ensures.parts) (rw c.in-Err-Broken.field-0-is at c.in-Err-Broken.ensures))
+    rw c.in-Err-Broken.field-0-is (λ number reason e. breaks_there c.args.text.now (c.loop-reason.before + 1) number c.in-Err-Broken.reason reason e
+    (broken_line c.args.text.now c.loop-reason.feed.items c.loop-reason.rest.now c.cut.result.0.now _ c.loop-reason.before c.in-Err-Broken.reason c.loop-reason.invariant (sym c.cut.ensures.parts) (rw c.in-Err-Broken.field-0-is at c.in-Err-Broken.ensures)))
 
 pub returns-in-Err-Broken-clause-only : goal.returns-in-Err-Broken-clause-only
 returns-in-Err-Broken-clause-only c =

@@ -17,7 +17,7 @@ returns-in-Err-record_of c = ends record_at (codes " | @") c.in-Err-record_of.un
 
 pub loop-preserved : goal.loop-preserved
 loop-preserved c =
-    rw c.in_ok-push-2.ensures.items (goes_on record_at (codes " | @") c.loop.records.items (length c.args.text.now) c.loop.counter c.loop.rest.now c.in-Ok-behind.inside.now c.in-Ok-record_of.redo c.in-Ok-record_of.after.now (list_at record_at (codes " | @") (length c.args.text.now) c.args.text.now) c.loop-test.true c.in-Ok-behind.ensures c.in-Ok-record_of.ensures c.loop.invariant)
+    rw c.in_ok-push-in-Ok-record_of.ensures.items (goes_on record_at (codes " | @") c.loop.records.items (length c.args.text.now) c.loop.counter c.loop.rest.now c.in-Ok-behind.inside.now c.in-Ok-record_of.redo c.in-Ok-record_of.after.now (list_at record_at (codes " | @") (length c.args.text.now) c.args.text.now) c.loop-test.true c.in-Ok-behind.ensures c.in-Ok-record_of.ensures c.loop.invariant)
 
 pub returns : goal.returns
 returns c = is_done record_at (codes " | @") c.loop.records.items (length c.args.text.now) c.loop.counter c.loop.rest.now (list_at record_at (codes " | @") (length c.args.text.now) c.args.text.now) c.loop-test.false c.loop.invariant
