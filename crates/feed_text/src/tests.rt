@@ -29,8 +29,7 @@ fn shows_and_assembles_a_feed(rt: HostRuntime) -> Result<(), Fail> {
 }
 
 /// Lines that are shown as they are written: each kind of line, of vector and of value.
-const LINES: [(&str, &str); 21] = [
-    ("a header", "threads 1 sessions 8"),
+const LINES: [(&str, &str); 20] = [
     ("no vector", "1@281474976710655:"),
     ("records without vectors", "2@1: | @2: Begin 1 | @3:"),
     ("an abort", "1@1: Abort 18446744073709551615"),
@@ -59,12 +58,7 @@ const LINES: [(&str, &str); 21] = [
 #[test]
 fn shows_each_line_as_it_is_written(rt: HostRuntime) -> Result<(), Fail> {
     for (name, line) in LINES {
-        let head = "threads 8 sessions 8\n";
-        let whole = if name == "a header" {
-            format!(in rt.alloc(); "{line}\n")?
-        } else {
-            format!(in rt.alloc(); "{head}{line}\n")?
-        };
+        let whole = format!(in rt.alloc(); "threads 8 sessions 8\n{line}\n")?;
         let feed = assemble(rt.alloc(), whole.as_bytes())?;
         let text = show(rt.alloc(), feed.as_slice())?;
         let again = assemble(rt.alloc(), text.as_slice())?;
