@@ -19,7 +19,7 @@ const CHANGE: &[u8] =
 
 /// Bodies that are read and written again: each vector and kind of value, and each limit from
 /// inside. A name, the number of vectors, and their bytes.
-const GOOD: [(&str, u8, &[u8]); 26] = [
+static GOOD: [(&str, u8, &[u8]); 26] = [
     ("a record that creates", 1, CREATE),
     ("a record of three vectors", 3, CHANGE),
     ("no vector", 0, b""),
@@ -94,7 +94,7 @@ const GOOD: [(&str, u8, &[u8]); 26] = [
 
 /// Bodies with a vector that cannot be read: a name, the number of vectors, the bytes, and the
 /// index of that vector.
-const BAD: [(&str, u8, &[u8], u16); 28] = [
+static BAD: [(&str, u8, &[u8], u16); 28] = [
     ("bytes behind no vector", 0, b"\x0b", 1),
     ("bytes that remain", 1, b"\x08\0\x01\x0b", 2),
     ("a vector too few", 2, b"\x08\0\x01", 2),
@@ -205,14 +205,14 @@ fn framed(alloc: Global, count: u8, body: &[u8]) -> Result<Vec<u8>, Fail> {
 fn reads_and_writes_each_vector(rt: HostRuntime) -> Result<(), Fail> {
     let alloc = rt.alloc();
     let scn = Scn::new(281_474_976_710_655).ok_or("an SCN")?;
-    for (name, count, body) in GOOD {
-        let vectors = match read_vectors(alloc, body, count) {
+    for (name, count, body) in &GOOD {
+        let vectors = match read_vectors(alloc, body, *count) {
             Ok(vectors) => vectors,
             Err(_) => List::new(alloc),
         };
-        assert_eq!(rt; vectors.len(), count as usize, "{name}");
+        assert_eq!(rt; vectors.len(), *count as usize, "{name}");
         let written = write_record(alloc, &RedoRecord { scn, vectors })?;
-        let wanted = framed(alloc, count, body)?;
+        let wanted = framed(alloc, *count, body)?;
         assert_eq!(rt; written.as_slice(), wanted.as_slice(), "{name}");
     }
     Ok(())
@@ -220,14 +220,14 @@ fn reads_and_writes_each_vector(rt: HostRuntime) -> Result<(), Fail> {
 
 #[test]
 fn names_the_vector_that_cannot_be_read(rt: HostRuntime) {
-    for (name, count, body, index) in BAD {
-        let refused = match read_vectors(rt.alloc(), body, count) {
+    for (name, count, body, index) in &BAD {
+        let refused = match read_vectors(rt.alloc(), body, *count) {
             Ok(_) => None,
             Err(refused) => Some(refused),
         };
         assert_eq!(rt;
             refused,
-            Some(VectorsRefused::BadVector { index }),
+            Some(VectorsRefused::BadVector { index: *index }),
             "{name}"
         );
     }
@@ -262,23 +262,34 @@ fn create_of(alloc: Global, extents: u16, width: usize) -> Result<Vector, Fail> 
     })
 }
 
-/// So many puts of 16 texts of 64 bytes, and these vectors.
-fn puts_and(alloc: Global, count: u16, others: Vec<Vector>) -> Result<VectorList, Fail> {
-    let mut vectors = List::new(alloc);
-    for _ in 0..count {
-        vectors.push(put_of(alloc, 16, 64)?)?;
-    }
-    for vector in others {
-        vectors.push(vector)?;
-    }
-    Ok(vectors)
+/// A vector in short.
+#[derive(Clone, Copy)]
+enum Made {
+    /// A row of so many texts of so many bytes.
+    Put(usize, usize),
+    /// An object of so many extents and columns.
+    Create(u16, usize),
+    /// The end of the thread, which no record has beside another vector.
+    End,
 }
 
-/// So many vectors of one byte, which no record has beside another.
-fn ends(alloc: Global, count: u16) -> Result<VectorList, Fail> {
+/// So many vectors of one sort.
+type Several = (u16, Made);
+
+fn vector_of(alloc: Global, made: Made) -> Result<Vector, Fail> {
+    match made {
+        Made::Put(width, len) => put_of(alloc, width, len),
+        Made::Create(extents, width) => create_of(alloc, extents, width),
+        Made::End => Ok(Vector::EndThread),
+    }
+}
+
+fn vectors_of(alloc: Global, several: &[Several]) -> Result<VectorList, Fail> {
     let mut vectors = List::new(alloc);
-    for _ in 0..count {
-        vectors.push(Vector::EndThread)?;
+    for (count, made) in several {
+        for _ in 0..*count {
+            vectors.push(vector_of(alloc, *made)?)?;
+        }
     }
     Ok(vectors)
 }
@@ -291,79 +302,106 @@ fn write(alloc: Global, scn: u64, vectors: VectorList) -> Result<usize, WriteRef
     }
 }
 
+/// A name, the SCN of a record and its vectors, and how long it is or why it is not written.
+type Written = (
+    &'static str,
+    u64,
+    &'static [Several],
+    Result<usize, WriteRefused>,
+);
+
+static WRITTEN: [Written; 16] = [
+    ("61 puts", 1, &[(61, Made::Put(16, 64))], Ok(65_344)),
+    (
+        "62 puts",
+        1,
+        &[(62, Made::Put(16, 64))],
+        Err(WriteRefused::TooLong),
+    ),
+    (
+        "65,535 bytes",
+        1,
+        &[
+            (61, Made::Put(16, 64)),
+            (1, Made::Put(2, 64)),
+            (1, Made::Put(1, 27)),
+        ],
+        Ok(65_535),
+    ),
+    (
+        "65,536 bytes",
+        1,
+        &[
+            (61, Made::Put(16, 64)),
+            (1, Made::Put(2, 64)),
+            (1, Made::Put(1, 28)),
+        ],
+        Err(WriteRefused::TooLong),
+    ),
+    ("SCN 0", 0, &[(1, Made::End)], Err(WriteRefused::BadForm)),
+    ("one end", 1, &[(1, Made::End)], Ok(14)),
+    ("two ends", 1, &[(2, Made::End)], Err(WriteRefused::BadForm)),
+    (
+        "255 ends",
+        1,
+        &[(255, Made::End)],
+        Err(WriteRefused::BadForm),
+    ),
+    (
+        "256 vectors",
+        1,
+        &[(256, Made::End)],
+        Err(WriteRefused::TooLong),
+    ),
+    (
+        "256 vectors at SCN 0",
+        0,
+        &[(256, Made::End)],
+        Err(WriteRefused::TooLong),
+    ),
+    (
+        "a row of no column",
+        1,
+        &[(1, Made::Put(0, 0))],
+        Err(WriteRefused::BadForm),
+    ),
+    (
+        "a row of 17 columns",
+        1,
+        &[(1, Made::Put(17, 1))],
+        Err(WriteRefused::BadForm),
+    ),
+    (
+        "no extents",
+        1,
+        &[(1, Made::Create(0, 1))],
+        Err(WriteRefused::BadForm),
+    ),
+    (
+        "257 extents",
+        1,
+        &[(1, Made::Create(257, 1))],
+        Err(WriteRefused::BadForm),
+    ),
+    (
+        "no column",
+        1,
+        &[(1, Made::Create(1, 0))],
+        Err(WriteRefused::BadForm),
+    ),
+    (
+        "17 columns",
+        1,
+        &[(1, Made::Create(1, 17))],
+        Err(WriteRefused::BadForm),
+    ),
+];
+
 #[test]
 fn writes_what_has_a_spelling(rt: HostRuntime) -> Result<(), Fail> {
-    let alloc = rt.alloc();
-    let none = || Vec::new(alloc);
-    let too_long = Err(WriteRefused::TooLong);
-    let bad_form = Err(WriteRefused::BadForm);
-    for (name, scn, vectors, want) in vec![in alloc;
-        ("61 puts", 1, puts_and(alloc, 61, none())?, Ok(65_344)),
-        ("62 puts", 1, puts_and(alloc, 62, none())?, too_long),
-        (
-            "65,535 bytes",
-            1,
-            puts_and(
-                alloc,
-                61,
-                vec![in alloc; put_of(alloc, 2, 64)?, put_of(alloc, 1, 27)?]?
-            )?,
-            Ok(65_535)
-        ),
-        (
-            "65,536 bytes",
-            1,
-            puts_and(
-                alloc,
-                61,
-                vec![in alloc; put_of(alloc, 2, 64)?, put_of(alloc, 1, 28)?]?
-            )?,
-            too_long
-        ),
-        ("SCN 0", 0, ends(alloc, 1)?, bad_form),
-        ("one end", 1, ends(alloc, 1)?, Ok(14)),
-        ("two ends", 1, ends(alloc, 2)?, bad_form),
-        ("255 ends", 1, ends(alloc, 255)?, bad_form),
-        ("256 vectors", 1, ends(alloc, 256)?, too_long),
-        ("256 vectors at SCN 0", 0, ends(alloc, 256)?, too_long),
-        (
-            "a row of no column",
-            1,
-            puts_and(alloc, 0, vec![in alloc; put_of(alloc, 0, 0)?]?)?,
-            bad_form
-        ),
-        (
-            "a row of 17 columns",
-            1,
-            puts_and(alloc, 0, vec![in alloc; put_of(alloc, 17, 1)?]?)?,
-            bad_form
-        ),
-        (
-            "no extents",
-            1,
-            puts_and(alloc, 0, vec![in alloc; create_of(alloc, 0, 1)?]?)?,
-            bad_form
-        ),
-        (
-            "257 extents",
-            1,
-            puts_and(alloc, 0, vec![in alloc; create_of(alloc, 257, 1)?]?)?,
-            bad_form
-        ),
-        (
-            "no column",
-            1,
-            puts_and(alloc, 0, vec![in alloc; create_of(alloc, 1, 0)?]?)?,
-            bad_form
-        ),
-        (
-            "17 columns",
-            1,
-            puts_and(alloc, 0, vec![in alloc; create_of(alloc, 1, 17)?]?)?,
-            bad_form
-        ),
-    ]? {
-        assert_eq!(rt; write(alloc, scn, vectors), want, "{name}");
+    for (name, scn, several, want) in &WRITTEN {
+        let vectors = vectors_of(rt.alloc(), several)?;
+        assert_eq!(rt; write(rt.alloc(), *scn, vectors), *want, "{name}");
     }
     Ok(())
 }

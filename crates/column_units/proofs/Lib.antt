@@ -1,3 +1,4 @@
 pub mod Map
 pub mod Units
 pub mod Rows
+mod Looked

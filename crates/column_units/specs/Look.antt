@@ -1,11 +1,11 @@
 -- What a scan may take from a unit.
-use Rattle.std.specs.Prelude.{ℕ, Bool, true, false, not, nat_le, ◌&&◌, List, filter, Option, Some, None}
+use Rattle.std.specs.Prelude.{ℕ, Bool, true, false, not, nat_le, ◌&&◌, if◌then◌else◌, List, filter, Option, Some, None, option_map}
 use Rattle.adg_base.specs.declared.placed.PlacedRow.{PlacedRow}
 use Rattle.column_codec.specs.Extent.{PlacedColumns, placed_rows}
 use Rattle.column_units.specs.declared.unit.Unit.{Unit as ColumnUnit}
 use Rattle.column_units.specs.declared.unit.UnitState.{UnitState}
 use Rattle.column_units.specs.declared.unit.UnitState.TheVariants.{Loading, Ready}
-use Rattle.column_units.specs.Unit.{marks}
+use Rattle.column_units.specs.Unit.{marks, columns_of}
 
 -- columns, and the map of the addresses whose rows are not to be taken from them
 pub record Look : Type 0 where
@@ -24,3 +24,7 @@ look_in true map (Ready columns) = Some (record { columns = columns; marked = ma
 
 abbrev pub look_at : ℕ → ColumnUnit → Option Look
 look_at q u = look_in (not u.all && nat_le u.snapshot q) u.map u.state
+
+-- the rows of a unit that are not marked, with their addresses: None where it gives no look
+abbrev pub unmarked_rows : ℕ → ColumnUnit → Option (List PlacedRow)
+unmarked_rows q u = if not u.all && nat_le u.snapshot q then option_map (λ columns. filter (λ r. not (marks u.map r.addr)) (placed_rows columns)) (columns_of u.state) else None

@@ -36,9 +36,10 @@ fn registered(alloc: Global, obj: Obj) -> Result<UnitShard, Fail> {
     let snapshot = Scn::new(11).ok_or("scn")?;
     let mut shard = UnitShard::new(alloc, unit_shard(obj, 0));
     for (extent, ticket) in [(0, 1), (32, 2)] {
-        if unit_shard(obj, extent) == shard.number() {
-            shard.register(obj, extent, snapshot, ticket)?;
+        if unit_shard(obj, extent) != shard.number() {
+            Err("another shard")?
         }
+        shard.register(obj, extent, snapshot, ticket)?;
     }
     Ok(shard)
 }

@@ -1,8 +1,8 @@
-ghost use Rattle.std.specs.Prelude.{◌≡◌, ◌/◌, true, if◌then◌else◌, IfOk};
+ghost use Rattle.std.specs.Prelude.{◌≡◌, ◌/◌, true, if◌then◌else◌, option_map, IfOk};
 ghost use Rattle.adg_base.specs.Address.{Place};
 ghost use Rattle.column_codec.specs.Extent.{AreColumns, is_in_extent};
 ghost use Rattle.column_units.specs.Unit.{awaits, loaded, marks, IsNew, Marks};
-ghost use Rattle.column_units.specs.Look.{look_at};
+ghost use Rattle.column_units.specs.Look.{clean_rows, look_at, unmarked_rows};
 
 use crate::marks::{self, BLOCKS};
 use adg_base::address::Addr;
@@ -91,8 +91,10 @@ impl Unit {
 
     /// What a scan at `q` may take from it: None exactly where it is not ready, all is marked, or its
     /// snapshot is above `q`.
+    #[tactic(auto, using(crate::proofs::Looked::rows_of_look))]
     pub fn clean_rows(&self, q: Scn) -> Result<Option<CleanRows>, Memory>
-        ensures { IfOk result (λ look. look ≡ look_at q self.now) }
+        ensures look { IfOk result (λ look. look ≡ look_at q self.now) }
+        ensures rows { IfOk result (λ look. option_map clean_rows look ≡ unmarked_rows q self.now) }
     {
         match &self.state {
             UnitState::Ready(columns) if !self.all && self.snapshot <= q => {

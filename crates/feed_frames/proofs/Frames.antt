@@ -25,7 +25,7 @@ pub item_later : {a b d : Option (List ℕ)} {m n l : ℕ} (old new : Incoming) 
 item_later {a} {b} {d} {m} {n} {l} old new before head took t =
     (t.item, subst (Took a d m l) (item_spelled t.item (tag_byte head.tag) head.len t.tag t.whole) (took_both a b d m n l (head_bytes head) (payload_of t.item) took t.took), t.follows, t.holds)
 
-is_zero : (n : ℕ) → not (n == 0) ≡ false → n ≡ 0
+pub is_zero : (n : ℕ) → not (n == 0) ≡ false → n ≡ 0
 is_zero n h = grind (arith, common_steps)
 
 pub end_spelled : (st : Standing) (before : List Item) (len : ℕ) → length_fault st before end_tag len ≡ None → end_tag ∷ to_be_bytes w32 len ≡ end_bytes

@@ -8,16 +8,16 @@ use Rattle.adg_model.specs.Feed.Item.{Redo, Asks, Schedules}
 use Rattle.feed_frames.proofs.Faults.{first_none, second_none, fails_none}
 
 -- a number of which the test for a range finds nothing wrong
-in_range : (most n : ℕ) → not (is_in most n) ≡ false → IsIn most n
+pub in_range : (most n : ℕ) → not (is_in most n) ≡ false → IsIn most n
 in_range most n h = grind (arith, common_steps)
 
-at_least_one : (n : ℕ) → not (nat_le 1 n) ≡ false → 1 ≤ n
+pub at_least_one : (n : ℕ) → not (nat_le 1 n) ≡ false → 1 ≤ n
 at_least_one n h = grind (arith, common_steps)
 
 not_above : (most n : ℕ) → nat_lt most n ≡ false → n ≤ most
 not_above most n h = grind (arith, common_steps)
 
-below_most : (most n : ℕ) → nat_le most n ≡ false → n < most
+pub below_most : (most n : ℕ) → nat_le most n ≡ false → n < most
 below_most most n h = grind (arith, common_steps)
 
 pub redo_item : (st : Standing) (before : List Item) (len thread : ℕ) (bytes : List ℕ) → length_fault st before redo_tag len ≡ None → payload_fault st before redo_tag (thread ∷ []) ≡ None → len ≡ 1 + length bytes

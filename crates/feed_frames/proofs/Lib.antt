@@ -5,3 +5,5 @@ pub mod Items
 pub mod Stages
 pub mod IntakeLaws
 pub mod ReaderLaws
+pub mod NextFrame
+pub mod FirstFaults

@@ -7,6 +7,7 @@ mod delivery;
 pub mod fault;
 mod head;
 mod intake;
+pub mod law;
 mod opening;
 pub mod phase;
 pub mod reader;

@@ -1,15 +1,14 @@
-ghost use Rattle.std.specs.Prelude.{◌≡◌, ◌≤◌, length};
-
 use crate::fault::FeedFault;
 use crate::reader::{FeedReader, Step};
 use adg_io::memory_source::MemSource;
 use adg_model::delivery::RawDelivery;
 use adg_model::fault::FeedKind;
 use std::alloc::Global;
+use std::process::Abort;
 use std::test::Fail;
 
 /// A feed of one thread and one session with two deliveries: redo, and a command.
-const FEED: [u8; 139] = *b"IMADG01\nH\0\0\0\x02\x01\x01\
+static FEED: [u8; 139] = *b"IMADG01\nH\0\0\0\x02\x01\x01\
 R\0\0\0\x4e\x01\0\x15\0\0\0\0\0\0\0\x0a\x01\x07\0\x01\0\x01\x01\x01\x01\0\x15\
 \0\x38\0\0\0\0\0\0\0\x0b\x03\x01\0\0\0\0\0\0\0\x07\
 \x02\0\0\0\0\0\0\0\x07\0\x01\0\0\0\x01\x01\0\0\0\0\0\0\0\x05\
@@ -62,7 +61,7 @@ fn read(alloc: Global, bytes: &[u8], most: usize, failing: &[u64]) -> Result<Rea
 /// byte that it names, and how many were taken.
 type Damage = (&'static str, usize, usize, u8, FeedKind, u64, u64);
 
-const DAMAGES: [Damage; 22] = [
+static DAMAGES: [Damage; 22] = [
     ("no byte", 0, 0, 0x49, FeedKind::Truncated, 0, 0),
     ("a magic that is cut", 7, 0, 0x49, FeedKind::Truncated, 7, 7),
     ("redo that is cut", 60, 0, 0x49, FeedKind::Truncated, 60, 60),
@@ -161,21 +160,54 @@ const DAMAGES: [Damage; 22] = [
 
 #[test]
 fn names_the_first_fault(rt: HostRuntime) -> Result<(), Fail> {
-    for (name, len, at, byte, kind, place, taken) in DAMAGES {
+    for (name, len, at, byte, kind, place, taken) in &DAMAGES {
         let mut bytes = Vec::from_slice(rt.alloc(), FEED.as_slice())?;
-        bytes.truncate(len);
-        if at < bytes.len() {
-            bytes[at] = byte;
+        bytes.truncate(*len);
+        if *at < bytes.len() {
+            bytes[*at] = *byte;
         }
         for most in [1, 3, 1000] {
             let reading = read(rt.alloc(), bytes.as_slice(), most, &[])?;
-            let wanted = FeedFault { kind, byte: place };
-            assert_eq!(rt; reading.fault, Some(wanted), "{name}");
-            assert_eq!(rt; reading.taken, taken, "{name}");
-            assert!(rt; reading.again, "{name}");
+            assert_fails(&rt, *name, &reading, *kind, *place, *taken);
         }
     }
     Ok(())
+}
+
+/// The reading ended with this fault, and so again.
+fn assert_fails(
+    rt: &impl Abort,
+    name: &str,
+    reading: &Reading,
+    kind: FeedKind,
+    byte: u64,
+    taken: u64,
+) {
+    assert_eq!(rt; reading.fault, Some(FeedFault { kind, byte }), "{name}");
+    assert_eq!(rt; reading.taken, taken, "{name}");
+    assert!(rt; reading.again, "{name}");
+}
+
+/// The first delivery of the feed.
+fn assert_first(rt: &impl Abort, delivery: &RawDelivery) {
+    let pieces = delivery.pieces.as_slice();
+    assert_eq!(rt; pieces.len(), 1);
+    assert_eq!(rt; pieces[0].thread, 1);
+    assert_eq!(rt; pieces[0].bytes.as_slice(), &FEED.as_slice()[21..98]);
+    assert!(rt; delivery.commands.is_empty());
+}
+
+/// The second delivery of the feed.
+fn assert_second(rt: &impl Abort, delivery: &RawDelivery) {
+    let commands = delivery.commands.as_slice();
+    assert_eq!(rt; commands.len(), 1);
+    assert_eq!(rt; commands[0].session, 1);
+    assert_eq!(rt;
+        commands[0].text.as_slice(),
+        b"SELECT COUNT FROM t1".as_slice()
+    );
+    assert!(rt; delivery.pieces.is_empty());
+    assert!(rt; delivery.schedule.is_empty());
 }
 
 #[test]
@@ -185,40 +217,105 @@ fn gives_what_the_feed_brings(rt: HostRuntime) -> Result<(), Fail> {
         assert_eq!(rt; reading.fault, None);
         assert_eq!(rt; reading.taken, 139);
         assert!(rt; reading.again);
-        let mut deliveries = reading.deliveries.into_iter();
-        let first = deliveries.next().ok_or("no delivery")?;
-        let pieces = first.pieces.as_slice();
-        assert_eq!(rt; pieces.len(), 1);
-        assert_eq!(rt; pieces[0].thread, 1);
-        assert_eq!(rt; pieces[0].bytes.as_slice(), &FEED.as_slice()[21..98]);
-        assert!(rt; first.commands.is_empty());
-        let second = deliveries.next().ok_or("one delivery")?;
-        let commands = second.commands.as_slice();
-        assert_eq!(rt; commands.len(), 1);
-        assert_eq!(rt; commands[0].session, 1);
-        assert_eq!(rt;
-            commands[0].text.as_slice(),
-            b"SELECT COUNT FROM t1".as_slice()
-        );
-        assert!(rt; second.pieces.is_empty());
-        assert!(rt; second.schedule.is_empty());
-        assert!(rt; deliveries.next().is_none());
-    }
-    for call in 1..20 {
-        let reading = read(rt.alloc(), FEED.as_slice(), 1000, &[call])?;
-        let taken = reading.taken;
-        let wanted = FeedFault {
-            kind: FeedKind::Read,
-            byte: taken,
+        let [first, second] = reading.deliveries.as_slice() else {
+            return Err(Fail::new("not two deliveries"));
         };
-        assert_eq!(rt; reading.fault, Some(wanted), "call {call}");
-        assert!(rt; reading.again, "call {call}");
-        if call == 12 {
-            assert_eq!(rt; taken, 103);
-        }
+        assert_first(&rt, first);
+        assert_second(&rt, second);
     }
     Ok(())
 }
+
+#[test]
+fn tells_a_read_that_failed(rt: HostRuntime) -> Result<(), Fail> {
+    for call in 1..20 {
+        let reading = read(rt.alloc(), FEED.as_slice(), 1000, &[call])?;
+        let taken = if call == 12 { 103 } else { reading.taken };
+        assert_fails(&rt, "a read", &reading, FeedKind::Read, taken, taken);
+    }
+    Ok(())
+}
+
+/// A part of a feed behind its opening: so many frames with this tag, whose payload is so many times
+/// this byte, or bytes as they are.
+#[derive(Clone, Copy)]
+enum Part {
+    Frames(u32, u8, usize, u8),
+    Bytes(&'static [u8]),
+}
+
+/// A feed at each limit: the threads and sessions, the payload of a delivery, the commands of a
+/// session, a command, and the deliveries.
+static FULL: [Part; 9] = [
+    Part::Frames(1, b'R', 33_554_432, 8),
+    Part::Frames(1, b'E', 0, 0),
+    Part::Frames(1_024, b'Q', 1, 1),
+    Part::Frames(1, b'E', 0, 0),
+    Part::Frames(1, b'Q', 1_025, 8),
+    Part::Frames(1, b'R', 1, 1),
+    Part::Frames(1, b'S', 1, 1),
+    Part::Frames(65_533, b'E', 0, 0),
+    Part::Frames(1, b'X', 0, 0),
+];
+
+/// How many pieces, commands and schedule bytes the first deliveries of the full feed bring.
+static SIZES: [(usize, usize, usize); 4] = [(1, 0, 0), (0, 1_024, 0), (1, 1, 1), (0, 0, 0)];
+
+/// A name, what follows the opening, the kind of the fault, the byte that it names, and how many were
+/// taken.
+type Excess = (&'static str, Part, FeedKind, u64, u64);
+
+static ONE_MORE: [Excess; 7] = [
+    (
+        "a payload",
+        Part::Bytes(b"S\x02\0\0\x01"),
+        FeedKind::TooLarge,
+        15,
+        20,
+    ),
+    (
+        "two payloads",
+        Part::Bytes(b"S\0\0\0\x01\0R\x02\0\0\0"),
+        FeedKind::TooLarge,
+        21,
+        26,
+    ),
+    (
+        "a command",
+        Part::Bytes(b"Q\0\0\x04\x02"),
+        FeedKind::BadLength,
+        15,
+        20,
+    ),
+    (
+        "commands",
+        Part::Frames(1_025, b'Q', 1, 1),
+        FeedKind::TooManyCommands,
+        6_159,
+        6_165,
+    ),
+    (
+        "deliveries",
+        Part::Frames(65_536, b'E', 0, 0),
+        FeedKind::TooManyDeliveries,
+        327_690,
+        327_695,
+    ),
+    (
+        "a thread",
+        Part::Frames(1, b'R', 1, 9),
+        FeedKind::BadThread,
+        15,
+        21,
+    ),
+    (
+        "schedule bytes",
+        Part::Frames(1, b'S', 0, 0),
+        FeedKind::BadLength,
+        15,
+        20,
+    ),
+];
 
 /// Appends a frame.
 fn push_frame(feed: &mut Vec<u8>, tag: u8, payload: &[u8]) -> Result<(), Fail> {
@@ -229,49 +326,31 @@ fn push_frame(feed: &mut Vec<u8>, tag: u8, payload: &[u8]) -> Result<(), Fail> {
     Ok(())
 }
 
-/// Appends so many commands of one byte.
-fn push_commands(feed: &mut Vec<u8>, count: u16) -> Result<(), Fail> {
-    for _ in 0..count {
-        push_frame(feed, b'Q', &[1])?;
+fn push_part(alloc: Global, feed: &mut Vec<u8>, part: Part) -> Result<(), Fail> {
+    match part {
+        Part::Frames(count, tag, len, byte) => {
+            let payload = vec![in alloc; byte; len]?;
+            for _ in 0..count {
+                push_frame(feed, tag, payload.as_slice())?;
+            }
+        }
+        Part::Bytes(bytes) => feed.extend_from_slice(bytes)?,
     }
     Ok(())
 }
 
-/// Appends so many deliveries of nothing.
-fn push_ends(feed: &mut Vec<u8>, count: u32) -> Result<(), Fail> {
-    for _ in 0..count {
-        push_frame(feed, b'E', &[])?;
+/// The opening of a feed of eight threads and eight sessions, and these parts.
+fn feed_of(alloc: Global, parts: &[Part]) -> Result<Vec<u8>, Fail> {
+    let mut feed = Vec::from_slice(alloc, b"IMADG01\nH\0\0\0\x02\x08\x08".as_slice())?;
+    for part in parts {
+        push_part(alloc, &mut feed, *part)?;
     }
-    Ok(())
-}
-
-/// The opening of a feed of eight threads and eight sessions.
-fn opening(alloc: Global) -> Result<Vec<u8>, Fail> {
-    Ok(Vec::from_slice(alloc, b"IMADG01\nH\0\0\0\x02\x08\x08".as_slice())?)
-}
-
-/// A feed at each limit: the threads and sessions, the payload of a delivery, the commands of a
-/// session, a command, and the deliveries.
-fn full_feed(alloc: Global) -> Result<Vec<u8>, Fail> {
-    let mut feed = opening(alloc)?;
-    let mut redo = vec![in alloc; 0; 33_554_432]?;
-    redo[0] = 8;
-    push_frame(&mut feed, b'R', redo.as_slice())?;
-    push_frame(&mut feed, b'E', &[])?;
-    push_commands(&mut feed, 1_024)?;
-    push_frame(&mut feed, b'E', &[])?;
-    let command = vec![in alloc; 8; 1_025]?;
-    push_frame(&mut feed, b'Q', command.as_slice())?;
-    push_frame(&mut feed, b'R', &[1])?;
-    push_frame(&mut feed, b'S', &[1])?;
-    push_ends(&mut feed, 65_533)?;
-    push_frame(&mut feed, b'X', &[])?;
     Ok(feed)
 }
 
 #[test]
 fn keeps_to_the_limits(rt: HostRuntime) -> Result<(), Fail> {
-    let mut feed = full_feed(rt.alloc())?;
+    let mut feed = feed_of(rt.alloc(), &FULL)?;
     let taken = feed.len() as u64;
     feed.push(7)?;
     let reading = read(rt.alloc(), feed.as_slice(), 100_000, &[])?;
@@ -279,49 +358,20 @@ fn keeps_to_the_limits(rt: HostRuntime) -> Result<(), Fail> {
     assert_eq!(rt; reading.taken, taken);
     assert_eq!(rt; reading.left, 1);
     assert_eq!(rt; reading.deliveries.len(), 65_535);
-    let sizes = [(1, 0, 0), (0, 1_024, 0), (1, 1, 1), (0, 0, 0)];
-    for (delivery, (pieces, commands, schedule)) in reading.deliveries.iter().zip(sizes) {
-        assert_eq!(rt; delivery.pieces.len(), pieces);
-        assert_eq!(rt; delivery.commands.len(), commands);
-        assert_eq!(rt; delivery.schedule.len(), schedule);
+    for (delivery, (pieces, commands, schedule)) in reading.deliveries.iter().zip(&SIZES) {
+        assert_eq!(rt; delivery.pieces.len(), *pieces);
+        assert_eq!(rt; delivery.commands.len(), *commands);
+        assert_eq!(rt; delivery.schedule.len(), *schedule);
     }
     Ok(())
 }
 
 #[test]
 fn refuses_one_more_than_the_most(rt: HostRuntime) -> Result<(), Fail> {
-    let mut large = opening(rt.alloc())?;
-    large.extend_from_slice(b"S\x02\0\0\x01".as_slice())?;
-    let mut both = opening(rt.alloc())?;
-    both.extend_from_slice(b"S\0\0\0\x01\0R\x02\0\0\0".as_slice())?;
-    let mut long = opening(rt.alloc())?;
-    long.extend_from_slice(b"Q\0\0\x04\x02".as_slice())?;
-    let mut many = opening(rt.alloc())?;
-    push_commands(&mut many, 1_025)?;
-    let mut ends = opening(rt.alloc())?;
-    push_ends(&mut ends, 65_536)?;
-    let mut thread = opening(rt.alloc())?;
-    push_frame(&mut thread, b'R', &[9])?;
-    let mut none = opening(rt.alloc())?;
-    push_frame(&mut none, b'S', &[])?;
-    for (name, feed, kind, byte, taken) in [
-        ("a payload", large, FeedKind::TooLarge, 15, 20),
-        ("two payloads", both, FeedKind::TooLarge, 21, 26),
-        ("a command", long, FeedKind::BadLength, 15, 20),
-        ("commands", many, FeedKind::TooManyCommands, 6_159, 6_165),
-        (
-            "deliveries",
-            ends,
-            FeedKind::TooManyDeliveries,
-            327_690,
-            327_695,
-        ),
-        ("a thread", thread, FeedKind::BadThread, 15, 21),
-        ("schedule bytes", none, FeedKind::BadLength, 15, 20),
-    ] {
+    for (name, part, kind, byte, taken) in &ONE_MORE {
+        let feed = feed_of(rt.alloc(), &[*part])?;
         let reading = read(rt.alloc(), feed.as_slice(), 100_000, &[])?;
-        assert_eq!(rt; reading.fault, Some(FeedFault { kind, byte }), "{name}");
-        assert_eq!(rt; reading.taken, taken, "{name}");
+        assert_fails(&rt, *name, &reading, *kind, *byte, *taken);
     }
     Ok(())
 }

@@ -157,6 +157,12 @@ next_more obj extent c index next n within =
           ∙ length_append (filter n.kept (nth_places obj extent index)) (filter n.kept (a ∷ [])) ∙ ap (λ k. length (filter n.kept (nth_places obj extent index)) + k) (length_one n.kept a));
     }
 
+-- the place of the next row then
+pub next_place : (obj extent : ℕ) (c : PlacedColumns) (index next : ℕ) (n : IsNext obj extent c.addresses index next) → index < 1024
+    → next + (if is_here (slice_get c.addresses next) (nth_place obj extent index) then 1 else 0) ≡ length (filter n.kept (nth_places obj extent (index + 1)))
+unfolding next_more
+next_place obj extent c index next n within = (next_more obj extent c index next n within).place
+
 pub next_first : (obj extent : ℕ) (c : PlacedColumns) (kept : Place → Bool) → c.addresses ≡ filter kept (extent_places obj extent) → IsNext obj extent c.addresses 0 0
 next_first obj extent c kept order = record { kept = kept; order = order; place = refl }
 

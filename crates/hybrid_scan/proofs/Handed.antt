@@ -1,5 +1,5 @@
 -- How a scan hands over rows, step by step.
-use Rattle.std.proofs.Common.{◌≡◌, ℕ, ◌+◌, ◌*◌, ◌≤◌, Bool, true, false, if◌then◌else◌, List, [], ◌∷◌, ◌++◌, length, Option, None, option_map, refl, sym, ap, subst, ◌∙◌, arith, append_assoc}
+use Rattle.std.proofs.Common.{◌≡◌, ℕ, ◌+◌, ◌*◌, ◌≤◌, Bool, true, false, List, [], ◌∷◌, ◌++◌, length, Option, option_map, refl, sym, ap, subst, ◌∙◌, arith, append_assoc}
 use Rattle.std.specs.Int.{from_bool}
 use Rattle.std.specs.Prelude.{option_to_list}
 use Rattle.std.specs.List.{AllByRecursion, filter_map, flat_map, range_with_len}
@@ -9,14 +9,10 @@ use Rattle.adg_base.specs.declared.value.Value.{Value}
 use Rattle.adg_base.specs.declared.placed.PlacedRow.{PlacedRow}
 use Rattle.adg_model.specs.Database.{Rows}
 use Rattle.adg_model.specs.Query.{padded}
-use Rattle.column_codec.specs.Extent.{row_in}
-use Rattle.column_units.specs.Unit.{marks}
-use Rattle.column_units.specs.Look.{Look}
 use Rattle.hybrid_scan.specs.declared.scan.ExtentCounts.{ExtentCounts}
-use Rattle.hybrid_scan.specs.declared.scan.Origin.{Origin}
 use Rattle.hybrid_scan.specs.Reader.{placed, placed_at, StillCovers}
-use Rattle.hybrid_scan.specs.Scan.{wide, seen, stored, wide_rows, extent_rows}
-use Rattle.hybrid_scan.specs.Progress.{nth_place, of_columns, of_blocks, HasAdded, HasScanned}
+use Rattle.hybrid_scan.specs.Scan.{wide, wide_rows, extent_rows}
+use Rattle.hybrid_scan.specs.Progress.{nth_place, HasAdded, HasScanned}
 use Rattle.hybrid_scan.proofs.Places.{nth_places, places_are, places_more, blocks_are, blocks_more, length_places, length_block}
 use Rattle.hybrid_scan.proofs.Found.{one_if}
 use Rattle.hybrid_scan.proofs.Blocks.{filter_map_more, filter_map_same, wide_placed, length_filter_map}
@@ -29,22 +25,21 @@ pub length_append : {X : Type 0} (xs ys : List X) → length (xs ++ ys) ≡ leng
 length_append [] ys = omega arith
 length_append (x ∷ xs) ys = let h = length_append xs ys in omega (arith, h)
 
--- one more address
-pub scanned_more : (f h : Place → Option (List Value)) (places : List Place) (a : Place) (row kept : Option (List Value)) (before now after : RowsOf) (counts counts' : ExtentCounts) (origin : Origin) (s0 s1 s2 : ℕ)
-    → HasScanned (filter_map f places) (filter_map h places) before now counts s0 s1 → HasAdded row kept now after origin s1 s2 → row ≡ f a → kept ≡ h a
-    → counts'.from_columns ≡ counts.from_columns + of_columns origin → counts'.from_blocks ≡ counts.from_blocks + of_blocks origin
+-- one more address, whose row is the store's
+pub scanned_more : (f h : Place → Option (List Value)) (places : List Place) (a : Place) (row : Option (List Value)) (before now after : RowsOf) (counts counts' : ExtentCounts) (s0 s1 s2 : ℕ)
+    → HasScanned (filter_map f places) (filter_map h places) before now counts s0 s1 → HasAdded row now after counts counts' s1 s2 → row ≡ f a → row ≡ h a
     → HasScanned (filter_map f (places ++ a ∷ [])) (filter_map h (places ++ a ∷ [])) before after counts' s0 s2
-scanned_more f h places a row kept before now after counts counts' origin s0 s1 s2 come added is is_kept columns blocks =
+scanned_more f h places a row before now after counts counts' s0 s1 s2 come added is is_kept =
     let more : filter_map f (places ++ a ∷ []) ≡ filter_map f places ++ option_to_list row = filter_map_more f places a ∙ ap (λ r. filter_map f places ++ option_to_list r) (sym is) in
     let long = length_append (filter_map f places) (option_to_list row) in
     let longer : length (filter_map f (places ++ a ∷ [])) ≡ length (filter_map f places) + length (option_to_list row) = ap length more ∙ long in
-    let kept_more : length (filter_map h (places ++ a ∷ [])) ≡ length (filter_map h places) + length (option_to_list kept) =
-    ap length (filter_map_more h places a ∙ ap (λ r. filter_map h places ++ option_to_list r) (sym is_kept)) ∙ length_append (filter_map h places) (option_to_list kept) in
+    let kept_more : length (filter_map h (places ++ a ∷ [])) ≡ length (filter_map h places) + length (option_to_list row) =
+    ap length (filter_map_more h places a ∙ ap (λ r. filter_map h places ++ option_to_list r) (sym is_kept)) ∙ length_append (filter_map h places) (option_to_list row) in
     record {
       added = added.added ∙ ap (λ l. l ++ option_to_list row) come.added ∙ append_assoc before (filter_map f places) (option_to_list row) ∙ ap (λ l. before ++ l) (sym more);
-      count = omega (arith, longer, come.count, added.count, columns, blocks);
-      blocks = omega (arith, kept_more, come.blocks, added.blocks, blocks);
-      cost = omega (arith, come.cost, added.cost, blocks);
+      count = omega (arith, longer, come.count, added.columns, added.blocks);
+      blocks = omega (arith, kept_more, come.blocks, added.blocks);
+      cost = omega (arith, come.cost, added.cost, added.blocks);
     }
 
 pub nothing_scanned : (before : RowsOf) (s : ℕ) → HasScanned [] [] before before (record { from_columns = 0; from_blocks = 0 }) s s
@@ -57,13 +52,6 @@ scanned_length f stored places n before now counts s0 s1 come long =
     let most = length_filter_map f places in
     let all : length now ≡ length before + length (filter_map f places) = ap length come.added ∙ length_append before (filter_map f places) in
     (omega (arith, most, all, long), omega (arith, most, come.count, long), omega (arith, most, come.count, long))
-
--- the same store gives the same
-pub seen_same : (look : Look) (width : ℕ) (store store' : Rows) (a : Place) → store' a ≡ store a → seen look width store' a ≡ seen look width store a
-seen_same look width store store' a same = ap (λ row. if marks look.marked a then option_map (padded width) row else row_in look.columns a) same
-
-pub stored_same : (look : Look) (width : ℕ) (store store' : Rows) (a : Place) → store' a ≡ store a → stored look width store' a ≡ stored look width store a
-stored_same look width store store' a same = ap (λ row. if marks look.marked a then option_map (padded width) row else None) same
 
 pub still_again : (C C' C'' : ℕ → Type 0) (R R' R'' : ℕ → Rows) → StillCovers C C' R R' → StillCovers C' C'' R' R'' → StillCovers C C'' R R''
 still_again C C' C'' R R' R'' h k q c =

@@ -6,5 +6,6 @@ pub mod Defined
 pub mod Seen
 pub mod Looks
 pub mod Handed
-pub mod Clear
+pub mod Marks
+pub mod Runs
 pub mod Tested

@@ -78,6 +78,13 @@ places_split obj extent n within =
     ap (λ k. map f (range_with_len 0 k)) all ∙ ap (map f) (range_split 0 n (suc (1023 - n))) ∙ map-append f (range_with_len 0 n) (range_with_len (0 + n) (suc (1023 - n)))
     ∙ ap (λ k. map f (range_with_len 0 n) ++ map f (range_with_len k (suc (1023 - n)))) start
 
+pub places_cut : (obj extent n : ℕ) → n ≤ 1024 → nth_places obj extent 1024 ≡ nth_places obj extent n ++ later_places obj extent n (1024 - n)
+places_cut obj extent n within =
+    let f = nth_place obj extent in
+    let all : 1024 ≡ n + (1024 - n) = omega (arith, within) in
+    let start : 0 + n ≡ n = omega arith in
+    ap (λ k. map f (range_with_len 0 k)) all ∙ ap (map f) (range_split 0 n (1024 - n)) ∙ map-append f (range_with_len 0 n) (range_with_len (0 + n) (1024 - n)) ∙ ap (λ k. map f (range_with_len 0 n) ++ map f (range_with_len k (1024 - n))) start
+
 apart : (obj extent i k : ℕ) → (i < k) ⊎ (k < i) → same_place (nth_place obj extent i) (nth_place obj extent k) ≡ false
 apart obj extent i k (inl h) = grind (arith, nat_tests)
 apart obj extent i k (inr h) = grind (arith, nat_tests)

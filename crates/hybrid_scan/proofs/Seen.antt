@@ -11,7 +11,7 @@ use Rattle.column_codec.specs.Extent.{is_in_extent, row_in}
 use Rattle.column_units.specs.Unit.{marks}
 use Rattle.column_units.specs.Look.{Look}
 use Rattle.hybrid_scan.specs.Scan.{wide, seen, extent_rows}
-use Rattle.hybrid_scan.specs.Covers.{Covers, Serves, LooksGiveRows}
+use Rattle.hybrid_scan.specs.Covers.{Covers, FitsScan, LooksGiveRows}
 use Rattle.hybrid_scan.specs.Progress.{nth_place}
 use Rattle.hybrid_scan.proofs.Places.{places_are}
 use Rattle.hybrid_scan.proofs.Blocks.{filter_map_same}
@@ -31,28 +31,28 @@ all_in_from obj extent k (suc n) h = (nth_in obj extent k (omega (arith, h)), al
 all_in : (obj extent : ℕ) → AllByRecursion (IsIn obj extent) (extent_places obj extent)
 all_in obj extent = subst (AllByRecursion (IsIn obj extent)) (sym (places_are obj extent)) (all_in_from obj extent 0 1024 (omega arith))
 
-seen_is : (log : List LogEntry) (look : Look) (width : ℕ) (store : Rows) (obj extent q : ℕ) → Serves log (Some look) width store obj extent q
+seen_is : (log : List LogEntry) (look : Look) (width : ℕ) (store : Rows) (obj extent q : ℕ) → FitsScan log (Some look) width store obj extent q
     → (a : Place) → IsIn obj extent a → seen look width store a ≡ wide width (rows_at log q) a
-seen_is log look width store obj extent q serves a within = by_mark (marks look.marked a) refl
+seen_is log look width store obj extent q fits a within = by_mark (marks look.marked a) refl
   where
     s : ℕ
-    s = serves.covers.0
+    s = fits.covers.0
 
     covers : Covers log obj extent s q look.columns (λ a. marks look.marked a ≡ true)
-    covers = serves.covers.1
+    covers = fits.covers.1
 
     by_mark : (b : Bool) → marks look.marked a ≡ b → seen look width store a ≡ wide width (rows_at log q) a
-    by_mark true m = ap (λ b. if b then wide width store a else row_in look.columns a) m ∙ ap (option_map (padded width)) (serves.store_has a within)
+    by_mark true m = ap (λ b. if b then wide width store a else row_in look.columns a) m ∙ ap (option_map (padded width)) (fits.store_has a within)
     by_mark false m =
-        let same = row_unchanged log serves.frontier s q a serves.is_log covers.reached (λ t e in_log is above upto touches. true≢false (sym (covers.marks t e in_log is above upto a touches within) ∙ m)) in
-        let as_wide = same_width log serves.frontier obj s q covers.rows.width width serves.is_log covers.reached covers.standing covers.rows.defined serves.defined in
+        let same = row_unchanged log fits.frontier s q a fits.is_log covers.reached (λ t e in_log is above upto touches. true≢false (sym (covers.marks t e in_log is above upto a touches within) ∙ m)) in
+        let as_wide = same_width log fits.frontier obj s q covers.rows.width width fits.is_log covers.reached covers.standing covers.rows.defined fits.defined in
         ap (λ b. if b then wide width store a else row_in look.columns a) m ∙ covers.rows.rows a within ∙ ap₂ (λ w row. option_map (padded w) row) as_wide (sym same)
 
 pub looks_give_rows : LooksGiveRows
 unfolding extent_rows
-looks_give_rows None width store obj extent q log serves =
+looks_give_rows None width store obj extent q log fits =
     filter_map_same (wide width store) (wide width (rows_at log q)) (extent_places obj extent)
-    (each_weaker (IsIn obj extent) (λ a. wide width store a ≡ wide width (rows_at log q) a) (λ a within. ap (option_map (padded width)) (serves.store_has a within)) (extent_places obj extent) (all_in obj extent))
-looks_give_rows (Some look) width store obj extent q log serves =
+    (each_weaker (IsIn obj extent) (λ a. wide width store a ≡ wide width (rows_at log q) a) (λ a within. ap (option_map (padded width)) (fits.store_has a within)) (extent_places obj extent) (all_in obj extent))
+looks_give_rows (Some look) width store obj extent q log fits =
     filter_map_same (seen look width store) (wide width (rows_at log q)) (extent_places obj extent)
-    (each_weaker (IsIn obj extent) (λ a. seen look width store a ≡ wide width (rows_at log q) a) (seen_is log look width store obj extent q serves) (extent_places obj extent) (all_in obj extent))
+    (each_weaker (IsIn obj extent) (λ a. seen look width store a ≡ wide width (rows_at log q) a) (seen_is log look width store obj extent q fits) (extent_places obj extent) (all_in obj extent))

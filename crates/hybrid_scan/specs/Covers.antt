@@ -57,7 +57,7 @@ abbrev pub HasRowsAt : Rows → List LogEntry → ℕ → ℕ → ℕ → Type 0
 HasRowsAt store log q obj extent = (a : Place) → is_in_extent obj extent a ≡ true → store a ≡ rows_at log q a
 
 -- What a scan of an extent at q asks of a log: the object is so wide, the store has its rows, and the look covers q.
-pub record Serves (log : List LogEntry) (look : Option Look) (width : ℕ) (store : Rows) (obj extent q : ℕ) : Type 0 where
+pub record FitsScan (log : List LogEntry) (look : Option Look) (width : ℕ) (store : Rows) (obj extent q : ℕ) : Type 0 where
   pub frontier : ℕ
   pub is_log : IsLog log frontier
   pub defined : IsWideAt log q obj width
@@ -67,7 +67,7 @@ pub record Serves (log : List LogEntry) (look : Option Look) (width : ℕ) (stor
 -- The rows that are scanned are then the committed rows of the extent, each as wide as the object, in order.
 abbrev pub AreCommitted : List (List Value) → Option Look → ℕ → Rows → ℕ → ℕ → ℕ → Type 0
 AreCommitted rows look width store obj extent q =
-    (log : List LogEntry) → Serves log look width store obj extent q → rows ≡ extent_rows (wide width (rows_at log q)) obj extent
+    (log : List LogEntry) → FitsScan log look width store obj extent q → rows ≡ extent_rows (wide width (rows_at log q)) obj extent
 
 -- what is seen by a look that covers q are the committed rows at q
 abbrev pub LooksGiveRows : Type 0

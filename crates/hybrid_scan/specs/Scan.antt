@@ -1,5 +1,5 @@
 -- The rows of an extent, of which some are taken from columns and the others from the store.
-use Rattle.std.specs.Prelude.{ℕ, if◌then◌else◌, List, length, map, Option, Some, None, option_map}
+use Rattle.std.specs.Prelude.{ℕ, if◌then◌else◌, List, map, Option, Some, None, option_map}
 use Rattle.std.specs.List.{filter_map, range_with_len}
 use Rattle.adg_base.specs.declared.value.Value.{Value}
 use Rattle.adg_base.specs.declared.placed.PlacedRow.{PlacedRow}
@@ -48,6 +48,6 @@ from_store look width store obj extent = extent_rows (stored_by look width store
 abbrev pub wide_rows : ℕ → List PlacedRow → List (List Value)
 wide_rows width rows = map (λ r. padded width r.row) rows
 
--- the rows of columns, one after another
-abbrev pub all_rows : PlacedColumns → List (List Value)
-all_rows c = map (row_at c.columns) (range_with_len 0 (length c.addresses))
+-- so many rows of columns from a place on
+abbrev pub rows_from : PlacedColumns → ℕ → ℕ → List (List Value)
+rows_from c place count = map (row_at c.columns) (range_with_len place count)

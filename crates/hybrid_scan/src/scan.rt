@@ -1,11 +1,10 @@
-ghost use Rattle.std.specs.Prelude.{◌≡◌, ◌+◌, ◌<◌, ◌^◌, ◌++◌, ◌==◌, if◌then◌else◌, length, slice_get, Some, None, option_map, option_copied, IfOk, OnOk};
+ghost use Rattle.std.specs.Prelude.{◌≡◌, ℕ, ◌+◌, ◌-◌, ◌<◌, ◌≤◌, ◌^◌, ◌++◌, true, length, slice_get, option_copied, IfOk, OnOk};
+ghost use Rattle.std.specs.Int.{bit_at};
 ghost use Rattle.std.specs.Option.{ForSome};
-ghost use Rattle.std.specs.List.{list_all};
-ghost use Rattle.column_codec.specs.Values.{row_at};
-ghost use Rattle.column_codec.specs.Extent.{AreColumns, row_in};
+ghost use Rattle.column_codec.specs.Extent.{AreColumns};
 ghost use Rattle.hybrid_scan.specs.Reader.{StillCovers};
-ghost use Rattle.hybrid_scan.specs.Scan.{seen, scanned, stored, from_store, wide, wide_rows, extent_rows, all_rows};
-ghost use Rattle.hybrid_scan.specs.Progress.{is_here, nth_place, of_columns, of_blocks, HasAdded, HasScanned};
+ghost use Rattle.hybrid_scan.specs.Scan.{seen, scanned, stored, from_store, wide, wide_rows, extent_rows, rows_from};
+ghost use Rattle.hybrid_scan.specs.Progress.{is_here, is_earlier, nth_place, marks_nth, AreClear, IsBorder, HasAdded, HasScanned};
 ghost use Rattle.hybrid_scan.specs.Covers.{AreCommitted};
 
 use crate::reader::BlockReader;
@@ -55,33 +54,11 @@ pub struct Target {
     q: Scn,
 }
 
-/// Where the row at an address came from.
-#[derive(Clone, Copy, Debug)]
-pub enum Origin {
-    Nowhere,
-    Columns,
-    Blocks,
-}
-
 impl ExtentCounts {
     const NONE: ExtentCounts = ExtentCounts {
         from_columns: 0,
         from_blocks: 0,
     };
-
-    /// Counts a row by where it came from.
-    fn count(&mut self, origin: Origin)
-        requires columns { self.old.from_columns + 1 < 2 ^ 64 }
-        requires blocks { self.old.from_blocks + 1 < 2 ^ 64 }
-        ensures columns { self.new.from_columns ≡ self.old.from_columns + of_columns origin }
-        ensures blocks { self.new.from_blocks ≡ self.old.from_blocks + of_blocks origin }
-    {
-        match origin {
-            Origin::Nowhere => {}
-            Origin::Columns => self.from_columns += 1,
-            Origin::Blocks => self.from_blocks += 1,
-        }
-    }
 }
 
 /// The rows of an extent that are committed at `q`, where the look covers it: clean ones from the
@@ -189,7 +166,8 @@ fn add_rows<S: RowSink, B: BlockReader, L: Ledger>(
     }
 }
 
-/// Hands over the clean rows of a look, and the marked ones from the store, if there are any.
+/// Hands over the rows that a look sees: those of the store at its marked addresses, in order, and the
+/// rows of its columns between them.
 fn add_looked<S: RowSink, B: BlockReader, L: Ledger>(
     alloc: Global,
     sink: &mut S,
@@ -206,133 +184,144 @@ fn add_looked<S: RowSink, B: BlockReader, L: Ledger>(
     ensures query { S.query sink.new ≡ S.query sink.old }
     ensures still { StillCovers (B.covers reader.old) (B.covers reader.new) (B.committed reader.old) (B.committed reader.new) }
 {
-    if is_clear(look.marked()) {
-        let counts = add_clean(alloc, sink, look.columns())?;
-        return Ok(counts);
-    }
-    add_seen(alloc, sink, look, reader, target, steps)
-}
-
-/// Whether no address is marked.
-fn is_clear(map: &[u64; 16]) -> bool
-    ensures { result ≡ list_all (λ word. word == 0) map.now }
-{
-    map.iter().all(|word| *word == 0)
-}
-
-/// Hands over all rows of columns.
-fn add_clean<S: RowSink>(
-    alloc: Global,
-    sink: &mut S,
-    columns: &Columns,
-) -> Result<ExtentCounts, Memory>
-    requires room { length (S.rows sink.old) + length columns.now.addresses < 2 ^ 64 }
-    ensures rows { OnOk result (S.rows sink.new ≡ S.rows sink.old ++ all_rows columns.now) }
-    ensures counts { IfOk result (λ counts. counts ≡ record { from_columns = length columns.now.addresses; from_blocks = 0 }) }
-    ensures query { S.query sink.new ≡ S.query sink.old }
-{
-    let count = columns.addresses().len();
-    for place in 0..count {
-        sink.add(alloc, &columns.row(place))?;
-    }
-    Ok(ExtentCounts {
-        from_columns: count as u64,
-        from_blocks: 0,
-    })
-}
-
-/// Hands over the clean rows of a look, and the marked ones from the store.
-fn add_seen<S: RowSink, B: BlockReader, L: Ledger>(
-    alloc: Global,
-    sink: &mut S,
-    look: &CleanRows,
-    reader: &mut B,
-    target: &Target,
-    steps: &mut Steps<L>,
-) -> Result<ExtentCounts, Memory>
-    requires covers { B.covers reader.old target.now.q }
-    requires within { target.now.extent < 256 }
-    requires columns { AreColumns target.now.obj target.now.extent look.now.columns }
-    requires room { length (S.rows sink.old) + 1024 < 2 ^ 64 }
-    ensures scanned { IfOk result (λ counts. HasScanned (extent_rows (seen look.now target.now.width (B.committed reader.old target.now.q)) target.now.obj target.now.extent) (extent_rows (stored look.now target.now.width (B.committed reader.old target.now.q)) target.now.obj target.now.extent) (S.rows sink.old) (S.rows sink.new) counts steps.old steps.new) }
-    ensures query { S.query sink.new ≡ S.query sink.old }
-    ensures still { StillCovers (B.covers reader.old) (B.covers reader.new) (B.committed reader.old) (B.committed reader.new) }
-{
-    let mut next = 0;
+    let columns = look.columns();
     let mut counts = ExtentCounts::NONE;
-    for index in 0..PLACES {
-        let addr = target.address(index);
-        let place = place_at(look.columns(), next, addr);
-        counts.count(add_row(alloc, sink, look, place, reader, target, addr, steps)?);
-        next += usize::from(place.is_some());
+    let mut next = 0;
+    let mut index = 0;
+    let mut mark = next_mark(look.marked(), index);
+    while mark < PLACES {
+        let addr = target.address(mark);
+        let end = run_end(columns.addresses(), next, usize::from(mark - index), addr);
+        add_run(alloc, sink, columns, next, end, &mut counts)?;
+        add_stored_row(alloc, sink, reader, target, addr, &mut counts, steps)?;
+        next = end + usize::from(is_at(columns.addresses(), end, addr));
+        index = mark + 1;
+        mark = next_mark(look.marked(), index);
     }
+    let end = columns.addresses().len();
+    add_run(alloc, sink, columns, next, end, &mut counts)?;
     Ok(counts)
 }
 
-/// The place of the next row in the columns, where its address is this one.
-fn place_at(columns: &Columns, next: usize, addr: Addr) -> Option<usize>
-    ensures { result ≡ (if is_here (slice_get columns.now.addresses next) addr then Some next else None) }
+/// The number of the first marked address from one on, or how many addresses there are.
+#[tactic(auto, using(crate::proofs::Marks::clear_more, crate::proofs::Marks::marked_here))]
+fn next_mark(map: &[u64; 16], from: u16) -> u16
+    requires { from ≤ 1024 }
+    ensures order { from ≤ result }
+    ensures most { result ≤ 1024 }
+    ensures clear { AreClear map.now from result }
+    ensures marked { result < 1024 → marks_nth map.now result ≡ true }
 {
-    match columns.addresses().get(next) {
-        Some(found) if *found == addr => Some(next),
-        _ => None,
+    let mut index = from;
+    while index < PLACES {
+        let clear = clear_slots(map[usize::from(index / 64)], index % 64);
+        if clear == 0 {
+            return index;
+        }
+        index += clear;
+    }
+    index
+}
+
+/// How many slots of a block are not marked from one on, up to the next that is.
+fn clear_slots(word: u64, slot: u16) -> u16
+    requires { slot < 64 }
+    ensures most { slot + result ≤ 64 }
+    ensures clear { (k : ℕ) → slot ≤ k → k < slot + result → bit_at word k ≡ 0 }
+    ensures marked { result ≡ 0 → bit_at word slot ≡ 1 }
+{
+    let rest = word >> slot;
+    if rest == 0 {
+        64 - slot
+    } else {
+        rest.trailing_zeros() as u16
     }
 }
 
-/// Hands over the row at an address: where it is marked that of the store, else that at its place in the
-/// columns.
-fn add_row<S: RowSink, B: BlockReader, L: Ledger>(
+/// The place of the first row, from a place on, whose address is not before one. It lies at most so many
+/// rows on.
+fn run_end(addresses: &[Addr], next: usize, most: usize, addr: Addr) -> usize
+    requires { next ≤ length addresses.now }
+    ensures order { next ≤ result }
+    ensures within { result ≤ length addresses.now }
+    ensures border { (n : ℕ) → IsBorder addresses.now addr n → next ≤ n → n ≤ next + most → n ≤ length addresses.now → result ≡ n }
+{
+    let mut low = next;
+    let mut high = addresses.len().min(next.saturating_add(most));
+    while low < high {
+        let middle = low + (high - low) / 2;
+        if is_before(addresses[middle], addr) {
+            low = middle + 1;
+        } else {
+            high = middle;
+        }
+    }
+    low
+}
+
+/// Whether an address of an extent comes before another.
+fn is_before(one: Addr, other: Addr) -> bool
+    ensures { result ≡ is_earlier one other }
+{
+    one.block() < other.block() || (one.block() == other.block() && one.slot() < other.slot())
+}
+
+/// Whether the row at a place of columns lies at an address.
+fn is_at(addresses: &[Addr], place: usize, addr: Addr) -> bool
+    ensures { result ≡ is_here (slice_get addresses.now place) addr }
+{
+    match addresses.get(place) {
+        Some(found) => *found == addr,
+        None => false,
+    }
+}
+
+/// Hands over the rows of columns from a place to another, and counts them.
+fn add_run<S: RowSink>(
     alloc: Global,
     sink: &mut S,
-    look: &CleanRows,
-    place: Option<usize>,
-    reader: &mut B,
-    target: &Target,
-    addr: Addr,
-    steps: &mut Steps<L>,
-) -> Result<Origin, Memory>
-    requires covers { B.covers reader.old target.now.q }
-    requires place { row_in look.now.columns addr ≡ option_map (row_at look.now.columns.columns) place }
-    requires room { length (S.rows sink.old) + 1 < 2 ^ 64 }
-    ensures added { IfOk result (λ origin. HasAdded (seen look.now target.now.width (B.committed reader.old target.now.q) addr) (stored look.now target.now.width (B.committed reader.old target.now.q) addr) (S.rows sink.old) (S.rows sink.new) origin steps.old steps.new) }
+    columns: &Columns,
+    from: usize,
+    to: usize,
+    counts: &mut ExtentCounts,
+) -> Result<(), Memory>
+    requires order { from ≤ to }
+    requires room { length (S.rows sink.old) + (to - from) < 2 ^ 64 }
+    requires counts { counts.old.from_columns + (to - from) < 2 ^ 64 }
+    ensures rows { OnOk result (S.rows sink.new ≡ S.rows sink.old ++ rows_from columns.now from (to - from)) }
+    ensures counts { OnOk result (counts.new ≡ record counts.old { from_columns = counts.old.from_columns + (to - from) }) }
     ensures query { S.query sink.new ≡ S.query sink.old }
-    ensures still { StillCovers (B.covers reader.old) (B.covers reader.new) (B.committed reader.old) (B.committed reader.new) }
 {
-    if look.is_marked(addr) {
-        return add_stored_row(alloc, sink, reader, target, addr, steps);
+    for place in from..to {
+        sink.add(alloc, &columns.row(place))?;
     }
-    match place {
-        Some(place) => {
-            sink.add(alloc, &look.columns().row(place))?;
-            Ok(Origin::Columns)
-        }
-        None => Ok(Origin::Nowhere),
-    }
+    counts.from_columns += (to - from) as u64;
+    Ok(())
 }
 
-/// Hands over the row that the store has at an address.
+/// Hands over the row that the store has at an address, and counts it.
 fn add_stored_row<S: RowSink, B: BlockReader, L: Ledger>(
     alloc: Global,
     sink: &mut S,
     reader: &mut B,
     target: &Target,
     addr: Addr,
+    counts: &mut ExtentCounts,
     steps: &mut Steps<L>,
-) -> Result<Origin, Memory>
+) -> Result<(), Memory>
     requires covers { B.covers reader.old target.now.q }
     requires room { length (S.rows sink.old) + 1 < 2 ^ 64 }
-    ensures added { IfOk result (λ origin. HasAdded (wide target.now.width (B.committed reader.old target.now.q) addr) (wide target.now.width (B.committed reader.old target.now.q) addr) (S.rows sink.old) (S.rows sink.new) origin steps.old steps.new) }
+    requires counts { counts.old.from_blocks + 1 < 2 ^ 64 }
+    ensures added { OnOk result (HasAdded (wide target.now.width (B.committed reader.old target.now.q) addr) (S.rows sink.old) (S.rows sink.new) counts.old counts.new steps.old steps.new) }
     ensures query { S.query sink.new ≡ S.query sink.old }
     ensures still { StillCovers (B.covers reader.old) (B.covers reader.new) (B.committed reader.old) (B.committed reader.new) }
 {
-    match reader.row(addr, target.q, steps)? {
-        Some(row) => {
-            let width = target.width;
-            sink.add(alloc, &WideRow { row: &row, width })?;
-            Ok(Origin::Blocks)
-        }
-        None => Ok(Origin::Nowhere),
+    if let Some(row) = reader.row(addr, target.q, steps)? {
+        let width = target.width;
+        sink.add(alloc, &WideRow { row: &row, width })?;
+        counts.from_blocks += 1;
     }
+    Ok(())
 }
 
 /// Hands over all rows from the store, block by block.

@@ -17,9 +17,6 @@ use column_codec::columns::Columns;
 use std::alloc::Global;
 use std::marker::Model;
 
-/// How many blocks an extent has.
-pub const BLOCKS: u8 = 16;
-
 /// An extent that is read, block by block, to become columns. The rows are held once, here and where
 /// they were read.
 #[derive(Drop)]
@@ -86,17 +83,28 @@ impl Build {
         }
     }
 
-    /// The columns of the rows that were read, each row with `Null` in the columns that it lacks.
+    /// The columns of the rows that were read, each row with `Null` in the columns that it lacks. The
+    /// build stays as it is.
+    pub fn columns(&self) -> Result<Columns, Memory>
+        requires { self.now.blocks ≡ 16 }
+        ensures columns { IfOk result (λ columns. columns ≡ columns_of self.now.width self.now.rows) }
+        ensures rows { IfOk result (λ columns. placed_rows columns ≡ widened self.now.width self.now.rows) }
+        ensures fit { IfOk result (AreColumns self.now.obj self.now.extent) }
+    {
+        let rows = self.rows.as_slice();
+        let addresses = addresses_in(self.alloc, rows)?;
+        let columns = columns_in(self.alloc, rows, self.width)?;
+        Ok(Columns::new(self.alloc, addresses, columns)?)
+    }
+
+    /// The same columns, where the build is not wanted any more.
     pub fn finish(self) -> Result<Columns, Memory>
         requires { self.blocks ≡ 16 }
         ensures columns { IfOk result (λ columns. columns ≡ columns_of self.width self.rows) }
         ensures rows { IfOk result (λ columns. placed_rows columns ≡ widened self.width self.rows) }
         ensures fit { IfOk result (AreColumns self.obj self.extent) }
     {
-        let rows = self.rows.as_slice();
-        let addresses = addresses_in(self.alloc, rows)?;
-        let columns = columns_in(self.alloc, rows, self.width)?;
-        Ok(Columns::new(self.alloc, addresses, columns)?)
+        self.columns()
     }
 }
 

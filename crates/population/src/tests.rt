@@ -72,15 +72,17 @@ fn full_block(alloc: Global, obj: Obj, block: u16) -> Result<BlockRows, Fail>
     Ok(List::from_vec(rows))
 }
 
-/// The second extent of an object, of which the first and the last block have rows.
-fn built(alloc: Global, obj: Obj) -> Result<Columns, Fail> {
+/// The second extent of an object, of which the first and the last block have rows: the columns while
+/// the build stays, and those that end it.
+fn built(alloc: Global, obj: Obj) -> Result<(Columns, Columns), Fail> {
     let snapshot = Scn::new(11).ok_or("scn")?;
     let mut build = Build::new(alloc, obj, 1, snapshot, &definition(obj))?;
     for index in 0..16u16 {
         let rows = rows_of(alloc, obj, 16 + index, index == 0 || index == 15)?;
         build.block(&rows)?;
     }
-    Ok(build.finish()?)
+    let columns = build.columns()?;
+    Ok((columns, build.finish()?))
 }
 
 /// Places of the columns, with the block and the slot of their rows.
@@ -113,7 +115,10 @@ fn assert_places(rt: &impl Abort, alloc: Global, columns: &Columns, obj: Obj) ->
 fn columns_are_the_rows_read(rt: HostRuntime) -> Result<(), Fail> {
     let alloc = rt.alloc();
     let obj = Obj::new(1).ok_or("obj")?;
-    let columns = built(alloc, obj)?;
-    assert!(rt; columns.addresses().len() == 128 && columns.columns().len() == 3);
-    assert_places(&rt, alloc, &columns, obj)
+    let (columns, last) = built(alloc, obj)?;
+    for made in [&columns, &last] {
+        assert!(rt; made.addresses().len() == 128 && made.columns().len() == 3);
+        assert_places(&rt, alloc, made, obj)?;
+    }
+    Ok(())
 }

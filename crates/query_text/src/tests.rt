@@ -1,14 +1,15 @@
 use crate::print::print_command;
 use crate::read::read_command;
 use crate::refused::{PrintRefused, TextFault};
-use adg_base::command::{Aggregate, Command, Condition, Op, Select, What};
-use adg_base::list::List;
+use adg_base::command::{Aggregate, Command, Condition, ConditionList, Op, Select, What};
+use adg_base::list::{Bytes, List};
 use adg_base::number::Obj;
 use adg_base::value::Value;
+use std::alloc::Global;
 use std::test::Fail;
 
 /// Texts that are no command, and the longest part in front of each that a command begins with.
-const WRONG: [(&str, &str); 58] = [
+static WRONG: [(&str, &str); 58] = [
     ("", ""),
     ("?", ""),
     ("select * FROM t1", ""),
@@ -133,7 +134,7 @@ const WRONG: [(&str, &str); 58] = [
 ];
 
 /// Each kind of command, at the ends of its numbers.
-const COMMANDS: [&str; 22] = [
+static COMMANDS: [&str; 22] = [
     "SYNC",
     "SHOW SCN",
     "ABORT",
@@ -160,7 +161,7 @@ const COMMANDS: [&str; 22] = [
 
 #[test]
 fn wrong_texts(rt: HostRuntime) -> Result<(), Fail> {
-    for (text, begins) in WRONG {
+    for (text, begins) in &WRONG {
         assert!(rt; text.len() < 200);
         let read = read_command(rt.alloc(), text.as_bytes());
         assert!(rt;
@@ -173,7 +174,7 @@ fn wrong_texts(rt: HostRuntime) -> Result<(), Fail> {
 
 #[test]
 fn read_and_printed(rt: HostRuntime) -> Result<(), Fail> {
-    for text in COMMANDS {
+    for text in &COMMANDS {
         assert!(rt; text.len() < 200);
         let command = read_command(rt.alloc(), text.as_bytes())?;
         let printed = print_command(rt.alloc(), &command)?;
@@ -182,52 +183,99 @@ fn read_and_printed(rt: HostRuntime) -> Result<(), Fail> {
     Ok(())
 }
 
-/// A query of table 1.
-fn query(
-    what: What,
-    column: u8,
-    literal: Value,
-    group: Option<u8>,
-    rt: &HostRuntime,
-) -> Result<Command, Fail> {
-    let mut conditions = List::new(rt.alloc());
+/// What a query asks for.
+#[derive(Clone, Copy)]
+enum Asked {
+    Rows,
+    Aggregates(&'static [Aggregate]),
+}
+
+/// A name, what a query of table 1 asks for, the column that it compares, with Null or with an integer, and the
+/// column that it groups by.
+type Query = (&'static str, Asked, u8, Option<i64>, Option<u8>);
+
+/// Queries that have no spelling.
+static UNSPELLED: [Query; 7] = [
+    ("rows in groups", Asked::Rows, 2, Some(0), Some(1)),
+    ("column 0", Asked::Rows, 0, Some(0), None),
+    ("column 17", Asked::Rows, 17, Some(0), None),
+    ("Null", Asked::Rows, 2, None, None),
+    ("no aggregate", Asked::Aggregates(&[]), 2, Some(0), None),
+    (
+        "an aggregate of column 17",
+        Asked::Aggregates(&[Aggregate::Count, Aggregate::Max(17)]),
+        2,
+        Some(0),
+        None,
+    ),
+    (
+        "groups by column 17",
+        Asked::Aggregates(&[Aggregate::Count]),
+        2,
+        Some(0),
+        Some(17),
+    ),
+];
+
+static SPELLED: Query = (
+    "a query",
+    Asked::Aggregates(&[Aggregate::Sum(16)]),
+    2,
+    Some(-3),
+    Some(1),
+);
+
+fn what_of(alloc: Global, asked: Asked) -> Result<What, Fail> {
+    match asked {
+        Asked::Rows => Ok(What::All),
+        Asked::Aggregates(list) => Ok(What::Aggregates(List::from_slice(alloc, list)?)),
+    }
+}
+
+fn conditions_of(alloc: Global, column: u8, number: Option<i64>) -> Result<ConditionList, Fail> {
+    let literal = match number {
+        Some(number) => Value::Int(number),
+        None => Value::Null,
+    };
+    let mut conditions = List::new(alloc);
     conditions.push(Condition {
         column,
         op: Op::Lt,
         literal,
     })?;
-    Ok(Command::Select(Select {
+    Ok(conditions)
+}
+
+fn printed(alloc: Global, query: &Query) -> Result<Result<Bytes, PrintRefused>, Fail> {
+    let (_, asked, column, number, group) = *query;
+    let command = Command::Select(Select {
         obj: Obj::new(1).ok_or("an object")?,
-        what,
-        conditions,
+        what: what_of(alloc, asked)?,
+        conditions: conditions_of(alloc, column, number)?,
         group,
-    }))
+    });
+    Ok(print_command(alloc, &command))
 }
 
 #[test]
 fn no_spelling(rt: HostRuntime) -> Result<(), Fail> {
-    let alloc = rt.alloc();
-    let sum = What::Aggregates(List::from_slice(alloc, &[Aggregate::Sum(16)])?);
-    let good = query(sum, 2, Value::Int(-3), Some(1), &rt)?;
-    let printed = print_command(alloc, &good)?;
+    for query in &UNSPELLED {
+        let refused = printed(rt.alloc(), query)?;
+        assert!(rt;
+            matches!(refused, Err(PrintRefused::NoSpelling)),
+            "{}",
+            query.0
+        );
+    }
+    Ok(())
+}
+
+#[test]
+fn one_spelling(rt: HostRuntime) -> Result<(), Fail> {
+    let spelled = printed(rt.alloc(), &SPELLED)??;
     assert_eq!(rt;
-        printed.as_slice(),
+        spelled.as_slice(),
         b"SELECT SUM(c16) FROM t1 WHERE c2 < -3 GROUP BY c1".as_slice()
     );
-    let none = What::Aggregates(List::new(alloc));
-    let far = What::Aggregates(List::from_slice(alloc, &[Aggregate::Count, Aggregate::Max(17)])?);
-    let count = What::Aggregates(List::from_slice(alloc, &[Aggregate::Count])?);
-    let commands = [
-        query(What::All, 2, Value::Int(0), Some(1), &rt)?,
-        query(What::All, 0, Value::Int(0), None, &rt)?,
-        query(What::All, 17, Value::Int(0), None, &rt)?,
-        query(What::All, 2, Value::Null, None, &rt)?,
-        query(none, 2, Value::Int(0), None, &rt)?,
-        query(far, 2, Value::Int(0), None, &rt)?,
-        query(count, 2, Value::Int(0), Some(17), &rt)?,
-    ];
-    for command in &commands {
-        assert!(rt; matches!(print_command(alloc, command), Err(PrintRefused::NoSpelling)));
-    }
     Ok(())
 }

@@ -7,3 +7,4 @@ pub mod Block
 pub mod Shard
 pub mod Shards
 pub mod Lent
+pub mod Held

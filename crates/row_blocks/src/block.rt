@@ -7,23 +7,39 @@ use adg_base::memory::Memory;
 use adg_base::number::Txn;
 use std::alloc::Global;
 use std::marker::Model;
+use std::mem::replace;
+use std::slice::from_ref;
 
 /// How many slots a block has.
 pub const SLOTS: u8 = 64;
 
-/// The versions at an address, the earliest first.
+/// How many versions a list has room for when an address gets its second.
+const ROOM: usize = 4;
+
+/// The versions at an address, the earliest first. Most addresses get no more than one, which needs no
+/// list of its own.
+#[derive(Drop)]
+enum Versions {
+    None,
+    One(Version),
+    Many(Vec<Version>),
+}
+
+/// The versions at an address.
 #[derive(Drop)]
 struct Slot {
-    versions: Vec<Version>,
+    alloc: Global,
+    versions: Versions,
 }
 
 impl Model for Slot {
     ghost use Rattle.std.specs.Prelude.{List};
     ghost use Rattle.row_blocks.specs.declared.version.Version.{Version};
+    ghost use Rattle.row_blocks.specs.Held.{list_of};
 
     ghost Value = { List Version };
 
-    ghost view = { λ s. s.versions.items };
+    ghost view = { λ s. list_of s.versions };
 }
 
 impl Slot {
@@ -31,19 +47,38 @@ impl Slot {
         ensures { result ≡ [] }
     {
         Slot {
-            versions: Vec::new(alloc),
+            alloc,
+            versions: Versions::None,
         }
     }
 
-    /// Adds a version. The first takes room for itself alone, since most slots get no other.
+    fn as_slice(&self) -> &[Version]
+        ensures { result.now ≡ self.now }
+    {
+        match &self.versions {
+            Versions::None => &[],
+            Versions::One(version) => from_ref(version),
+            Versions::Many(list) => list.as_slice(),
+        }
+    }
+
+    /// Adds a version. The second takes room for some more.
     fn push(&mut self, version: Version) -> Result<(), Memory>
         ensures ok { OnOk result (self.new ≡ self.old ++ version ∷ []) }
         ensures err { OnErr result (self.new ≡ self.old) }
     {
-        if self.versions.is_empty() {
-            self.versions.reserve_exact(1)?;
+        match &mut self.versions {
+            Versions::None => self.versions = Versions::One(version),
+            Versions::One(_) => {
+                let mut list = Vec::with_capacity(self.alloc, ROOM)?;
+                if let Versions::One(first) = replace(&mut self.versions, Versions::None) {
+                    list.push_reserved(first);
+                }
+                list.push_reserved(version);
+                self.versions = Versions::Many(list);
+            }
+            Versions::Many(list) => list.push(version)?,
         }
-        self.versions.push(version)?;
         Ok(())
     }
 
@@ -51,9 +86,29 @@ impl Slot {
     fn strike(&mut self, txn: Txn)
         ensures { self.new ≡ strike txn self.old }
     {
-        if let Some(index) = latest(&self.versions, txn) {
-            self.versions[index].struck = true;
+        match &mut self.versions {
+            Versions::None => {}
+            Versions::One(version) => strike_one(version, txn),
+            Versions::Many(list) => strike_latest(list, txn),
         }
+    }
+}
+
+/// Strikes a version, if it is of the transaction.
+fn strike_one(version: &mut Version, txn: Txn)
+    ensures { version.new ∷ [] ≡ strike txn (version.old ∷ []) }
+{
+    if version.txn == txn && !version.struck {
+        version.struck = true;
+    }
+}
+
+/// Strikes the latest version of a transaction that is not struck.
+fn strike_latest(versions: &mut [Version], txn: Txn)
+    ensures { versions.new ≡ strike txn versions.old }
+{
+    if let Some(index) = latest(versions, txn) {
+        versions[index].struck = true;
     }
 }
 
@@ -105,7 +160,7 @@ impl Block {
         requires { slot < 64 }
         ensures { result.now ≡ slice_index_or self.now slot [] }
     {
-        self.slots[slot as usize].versions.as_slice()
+        self.slots[slot as usize].as_slice()
     }
 
     /// Adds a version at a slot.

@@ -119,51 +119,94 @@ fn has_shape(rt: &impl Abort, links: &WorklinkList, workers: u8, lengths: &[usiz
     }
 }
 
+/// The worklinks of so many ends and changes, where the first end has line `from`.
+fn links_of(
+    alloc: Global,
+    from: usize,
+    count: usize,
+    drops: usize,
+    workers: u8,
+) -> Result<WorklinkList, Fail> {
+    let nodes = ends(alloc, from, count)?;
+    let ddl = changes(alloc, drops)?;
+    Ok(chop(alloc, &nodes, &ddl, workers)?)
+}
+
+/// The items are those of the ends, and then those of the changes.
+fn assert_items(
+    rt: &impl Abort,
+    items: &[Item],
+    from: usize,
+    count: usize,
+    name: &str,
+) -> Result<(), Fail> {
+    for (at, item) in items.iter().enumerate() {
+        assert_eq!(rt; *item, item_at(from, count, at)?, "{name} at {at}");
+    }
+    Ok(())
+}
+
 #[test]
 fn chops(rt: HostRuntime) -> Result<(), Fail> {
-    let alloc = rt.alloc();
     for from in 0..6 {
-        for (name, count, drops, workers, lengths) in FLUSHES {
-            let nodes = ends(alloc, from, count)?;
-            let ddl = changes(alloc, drops)?;
-            let links = chop(alloc, &nodes, &ddl, workers)?;
-            has_shape(&rt, &links, workers, lengths, name);
-            let items = items_of(alloc, &links)?;
-            assert_eq!(rt; items.len(), count.wrapping_add(drops), "{name}");
-            for (at, item) in items.iter().enumerate() {
-                assert_eq!(rt; *item, item_at(from, count, at)?, "{name} at {at}");
-            }
+        for (name, count, drops, workers, lengths) in &FLUSHES {
+            let links = links_of(rt.alloc(), from, *count, *drops, *workers)?;
+            has_shape(&rt, &links, *workers, lengths, *name);
+            let items = items_of(rt.alloc(), &links)?;
+            assert_eq!(rt; items.len(), count.wrapping_add(*drops), "{name}");
+            assert_items(&rt, &items, from, *count, *name)?;
         }
     }
     Ok(())
 }
 
-/// A list of one address and an empty one fill the room for two, and a copy has the same.
-#[test]
-fn collects_and_copies(rt: HostRuntime) -> Result<(), Fail> {
-    let alloc = rt.alloc();
-    let addr = Addr::new(obj_at(0)?, 2, 3).ok_or("an address")?;
+/// An address.
+fn addr() -> Result<Addr, Fail> {
+    Ok(Addr::new(obj_at(0)?, 2, 3).ok_or("an address")?)
+}
+
+/// A worklink whose room for two lists is filled by a list of one address and an empty one.
+fn filled(alloc: Global) -> Result<Worklink, Fail> {
     let mut collected = CollectedList::with_room(alloc, 2)?;
-    collected.push(txn_at(0)?, List::from_slice(alloc, [addr].as_slice())?);
+    collected.push(txn_at(0)?, List::from_slice(alloc, [addr()?].as_slice())?);
     collected.push(txn_at(1)?, List::new(alloc));
     let items = List::from_slice(alloc, [Item::Change { txn: txn_at(0)? }].as_slice())?;
-    let link = Worklink { items, collected }.copy(alloc)?;
+    Ok(Worklink { items, collected })
+}
+
+/// The list of the first transaction, which has one address.
+fn assert_first(rt: &impl Abort, list: &Collected) -> Result<(), Fail> {
+    assert!(rt; list.txn == txn_at(0)?);
+    assert_eq!(rt; list.addrs.as_slice(), [addr()?].as_slice());
+    Ok(())
+}
+
+/// A copy of a worklink has the same items, lists and room.
+#[test]
+fn collects_and_copies(rt: HostRuntime) -> Result<(), Fail> {
+    let link = filled(rt.alloc())?.copy(rt.alloc())?;
     assert_eq!(rt;
         link.items.as_slice(),
         [Item::Change { txn: txn_at(0)? }].as_slice()
     );
     assert_eq!(rt; link.collected.room(), 2);
-    let lists: &[Collected] = link.collected.as_slice();
-    assert_eq!(rt; lists.len(), 2);
-    assert!(rt; lists[0].txn == txn_at(0)? && lists[1].txn == txn_at(1)?);
-    assert_eq!(rt; lists[0].addrs.as_slice(), [addr].as_slice());
-    assert!(rt; lists[1].addrs.is_empty());
-    let one = lists[0].copy(alloc)?;
-    assert!(rt; one.txn == txn_at(0)?);
-    assert_eq!(rt; one.addrs.as_slice(), [addr].as_slice());
-    let nodes = List::from_vec(ends(alloc, 0, 6)?);
-    assert_eq!(rt; nodes.copy(alloc)?.as_slice(), nodes.as_slice());
-    let redefined = List::from_vec(changes(alloc, 2)?);
-    assert_eq!(rt; redefined.copy(alloc)?.as_slice(), redefined.as_slice());
+    let [first, second] = link.collected.as_slice() else {
+        return Err(Fail::new("not two lists"));
+    };
+    assert_first(&rt, first)?;
+    assert!(rt; second.txn == txn_at(1)? && second.addrs.is_empty());
+    assert_first(&rt, &first.copy(rt.alloc())?)
+}
+
+/// A copy of nodes has the same nodes.
+#[test]
+fn copies_nodes(rt: HostRuntime) -> Result<(), Fail> {
+    let nodes = List::from_vec(ends(rt.alloc(), 0, 6)?);
+    assert_eq!(rt; nodes.copy(rt.alloc())?.as_slice(), nodes.as_slice());
+    let redefined = List::from_vec(changes(rt.alloc(), 2)?);
+    assert_eq!(rt;
+        redefined.copy(rt.alloc())?.as_slice(),
+        redefined.as_slice()
+    );
     Ok(())
 }

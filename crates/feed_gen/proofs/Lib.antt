@@ -1,0 +1,17 @@
+pub mod Written
+pub mod Good
+pub mod Labels
+pub mod Texts
+pub mod Loops
+pub mod Small
+pub mod Whole
+pub mod Runs
+pub mod Threads
+pub mod Merged
+pub mod Passing
+pub mod Running
+pub mod History
+pub mod Drafts
+pub mod NoFault
+pub mod Last
+pub mod Lawful

@@ -1,0 +1,9 @@
+pub mod Round
+pub mod Picks
+pub mod Turns
+pub mod Telling
+pub mod Measure
+pub mod Standing
+pub mod Delivery
+pub mod Earlier
+pub mod Laws
