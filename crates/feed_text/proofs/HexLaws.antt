@@ -1,13 +1,13 @@
 -- Bytes in hexadecimal are read again.
-use Rattle.std.proofs.Common.{◌≡◌, ℕ, zero, suc, ◌+◌, ◌-◌, ◌*◌, ◌/◌, ◌%◌, ◌^◌, ◌<◌, ◌≤◌, Bool, true, false, cond, eqb, ltb, get_or, List, [], ◌∷◌, ◌++◌, length, Option, Some, None, refl, sym, ap, subst, ◌∙◌, append_assoc, arith, lit<, lit≤}
+use Rattle.std.proofs.Common.{◌≡◌, ℕ, zero, suc, ◌+◌, ◌-◌, ◌*◌, ◌/◌, ◌%◌, ◌^◌, ◌<◌, ◌≤◌, Bool, true, false, cond, eqb, ltb, get_or, List, [], ◌∷◌, ◌++◌, length, Some, refl, sym, ap, ◌∙◌, append_assoc, arith, lit<, lit≤}
 use Rattle.std.specs.Prelude.{replicate}
 use Rattle.std.specs.List.{flat_map, AllByRecursion}
 use Rattle.std.specs.Fmt.{decimal}
-use Rattle.std.proofs.lemmas.Bool.{eqb-true, eqb-false, lt-ltb, le-ltb, eq-eqb, ne_eqb}
+use Rattle.std.proofs.lemmas.Bool.{eqb-true, eq-eqb, ne_eqb}
 use Rattle.std.proofs.lemmas.List.{append-nil, replicate_more}
-use Rattle.feed_text.specs.Reading.{◌>>=◌, number_at}
+use Rattle.feed_text.specs.Reading.{number_at}
 use Rattle.feed_text.specs.LineReading.{split, onto_first, hex_value, whole, times_of, run_of, runs_of, hex_of}
-use Rattle.feed_text.specs.Hex.{Run, IsRun, hex_digit, hex_byte, times_text, run_text, runs_text, run, runs_from, runs, hex_text}
+use Rattle.feed_text.specs.Hex.{Run, IsRun, hex_digit, times_text, run_text, runs_text, run, runs_from, runs, hex_text}
 use Rattle.adg_model.proofs.CommandLaws.{IsDigit, decimal_digits}
 use Rattle.feed_text.proofs.NumberLaws.{number_again}
 

@@ -1,12 +1,12 @@
 -- How a run ends.
 use Rattle.std.proofs.Common.{◌≡◌, ◌≢◌, List, ℕ, Some, None}
 use Rattle.std.specs.Prelude.{Option}
-use Rattle.std.specs.Io.KnownBytes.{Appends, Consumes, IsAtEnd, Keeps}
+use Rattle.std.specs.Io.KnownBytes.{Appends, Consumes, IsAtEnd}
 use Rattle.std.proofs.KnownBytes.{Keeps-refl}
 use Rattle.feed_text.specs.declared.top.Turn.{Turn}
 use Rattle.feed_text.specs.declared.top.Ended.{Ended}
 use Rattle.feed_text.specs.declared.top.Ended.TheVariants.{Done, Refused, SourceFailed, SinkFailed, NoMemory}
-use Rattle.feed_text.specs.Run.{Turned, Wrote, TurnEnds, ReadAndWrote, RunEnds, IsTold}
+use Rattle.feed_text.specs.Run.{Turned, TurnEnds, RunEnds, IsTold}
 
 -- all was written, or a write failed
 pub wrote_ends : (turn : Turn) (input output : List ℕ) (held held_now : Option (List ℕ)) (r : Ended) → Turned turn input output → (r ≢ SinkFailed → (r ≡ Done) × Appends held held_now output) → TurnEnds turn input held held_now r

@@ -1,13 +1,13 @@
 -- Lines that add the bytes of a feed are a text that stands for them.
-use Rattle.std.proofs.Common.{◌≡◌, ℕ, ◌<◌, ◌^◌, length, lit<, take, drop, take-append-drop, ap₂, List, [], ◌∷◌, ◌++◌, Some, codes, refl, sym, ap, subst, ◌∙◌, append_assoc, arith}
-use Rattle.std.specs.List.{flat_map, AllByRecursion}
+use Rattle.std.proofs.Common.{◌≡◌, ℕ, ◌<◌, ◌^◌, length, lit<, take, drop, take-append-drop, ap₂, List, [], ◌∷◌, ◌++◌, Some, codes, refl, sym, ap, subst, ◌∙◌, append_assoc}
+use Rattle.std.specs.List.{AllByRecursion}
 use Rattle.std.proofs.lemmas.List.{append-nil}
 use Rattle.feed_text.specs.declared.line.Line.TheVariants.{Nothing, Raw}
 use Rattle.feed_text.specs.LineReading.{split, line_of, worded_line, raw_of, hex_of}
 use Rattle.feed_text.specs.Meaning.{Adds, AddAll, Assembles}
 use Rattle.feed_text.specs.Shown.{IsLine, lines_text, Shows, Grows, ShowsFront}
 use Rattle.feed_text.specs.Hex.{hex_text}
-use Rattle.feed_text.proofs.HexLaws.{Above, IsBytes, split_part, hex_again, hex_above}
+use Rattle.feed_text.proofs.HexLaws.{IsBytes, split_part, hex_again, hex_above}
 
 pub nothing_shown : Shows [] []
 nothing_shown = record { lines = []; spelled = refl; each = tt; add = refl }

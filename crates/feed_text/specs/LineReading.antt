@@ -1,10 +1,10 @@
 -- What a line of the text says.
-use Rattle.std.specs.Prelude.{◌≡◌, ℕ, ◌+◌, ◌-◌, ◌*◌, ◌^◌, zero, suc, Bool, true, false, List, [], ◌∷◌, ◌++◌, length, replicate, Option, Some, None, Result, Ok, Err, nat_lt, nat_le, ◌==◌, ◌&&◌, if◌then◌else◌, codes}
+use Rattle.std.specs.Prelude.{ℕ, ◌+◌, ◌-◌, ◌*◌, ◌^◌, List, [], ◌∷◌, ◌++◌, length, replicate, Option, Some, None, Result, Ok, Err, nat_le, ◌==◌, ◌&&◌, if◌then◌else◌, codes}
 use Rattle.feed_text.specs.declared.line.Line.{Line}
 use Rattle.feed_text.specs.declared.line.Line.TheVariants.{Nothing, Opening, Records, Redo, Command, Schedule, End, Stop, Raw}
 use Rattle.feed_text.specs.declared.reason.Reason.{Reason}
-use Rattle.feed_text.specs.declared.reason.Reason.TheVariants.{NoLine, NoOpening, NoCommand, NoBytes, NoRecords, NoSpelling}
-use Rattle.feed_text.specs.Reading.{◌>>=◌, behind, cut, number_at, byte_at, has_digit, record_at, list_at}
+use Rattle.feed_text.specs.declared.reason.Reason.TheVariants.{NoLine, NoOpening, NoCommand, NoBytes, NoRecords}
+use Rattle.feed_text.specs.Reading.{◌>>=◌, behind, number_at, byte_at, has_digit, record_at, list_at}
 
 -- the parts of a text between separators
 abbrev pub onto_first : ℕ → List (List ℕ) → List (List ℕ)

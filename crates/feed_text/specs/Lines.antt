@@ -1,13 +1,10 @@
 -- What a line says, the bytes that it adds to the feed, and the text of it.
-use Rattle.std.specs.Prelude.{◌≡◌, ℕ, ◌+◌, ◌<◌, ◌^◌, List, [], ◌∷◌, ◌++◌, length, codes}
+use Rattle.std.specs.Prelude.{ℕ, ◌<◌, ◌^◌, List, [], ◌∷◌, length}
 use Rattle.std.specs.List.{flat_map, AllByRecursion}
-use Rattle.std.specs.Fmt.{decimal}
-use Rattle.adg_base.specs.declared.vector.RedoRecord.{RedoRecord}
 use Rattle.adg_model.specs.Records.{record_bytes, IsRecord}
-use Rattle.adg_model.specs.Feed.{Item, frame, redo_tag, command_tag, schedule_tag, opening_bytes, end_bytes, stop_bytes}
+use Rattle.adg_model.specs.Feed.{frame, redo_tag, command_tag, schedule_tag, opening_bytes, end_bytes, stop_bytes}
 use Rattle.feed_text.specs.declared.line.Line.{Line}
 use Rattle.feed_text.specs.declared.line.Line.TheVariants.{Nothing, Opening, Records, Redo, Command, Schedule, End, Stop, Raw}
-use Rattle.feed_text.specs.Words.{records_text}
 
 -- the bytes that a line adds to the feed
 abbrev pub line_bytes : Line → List ℕ

@@ -1,5 +1,5 @@
 -- What a text stands for.
-use Rattle.std.specs.Prelude.{◌≡◌, ℕ, ◌+◌, List, [], ◌∷◌, ◌++◌, Option, Some, None, Result, Ok, Err, ◌⊎◌}
+use Rattle.std.specs.Prelude.{◌≡◌, ℕ, ◌+◌, List, [], ◌∷◌, ◌++◌, Result, Ok, Err, ◌⊎◌}
 use Rattle.feed_text.specs.declared.line.Line.{Line}
 use Rattle.feed_text.specs.declared.reason.Reason.{Reason}
 use Rattle.feed_text.specs.declared.reason.Reason.TheVariants.{NoSpelling}

@@ -1,7 +1,7 @@
 -- A feed as text: lines that add its bytes.
 use Rattle.std.specs.Prelude.{◌≡◌, ℕ, ◌<◌, List, [], ◌∷◌, ◌++◌}
 use Rattle.std.specs.List.{flat_map, AllByRecursion}
-use Rattle.feed_text.specs.Meaning.{Adds, AddAll}
+use Rattle.feed_text.specs.Meaning.{AddAll}
 
 -- no newline is in a line, nor another byte below a blank that could be taken for one
 abbrev pub IsLine : List ℕ → Type 0

@@ -1,4 +1,4 @@
-use Rattle.std.proofs.Common.{ℕ, ◌+◌, List, sym, refl}
+use Rattle.std.proofs.Common.{◌+◌, sym}
 use Rattle.feed_text.specs.LineReading.{split}
 use Rattle.feed_text.proofs.AssembleLaws.{at_start, next_line, last_line, broken_line, add_one, none_breaks, breaks_there}
 use Rattle.feed_text.proofs.assemble.assemble.Goals as goal

@@ -1,4 +1,4 @@
-use Rattle.std.proofs.Common.{◌≡◌, ◌-◌, codes, length}
+use Rattle.std.proofs.Common.{◌≡◌, ◌-◌, codes}
 use Rattle.feed_text.specs.Reading.{more_at, list_at, vector_at}
 use Rattle.feed_text.proofs.Many.{with_front}
 use Rattle.feed_text.proofs.record.some_vectors.Given as goal

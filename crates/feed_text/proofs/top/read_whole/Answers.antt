@@ -9,6 +9,7 @@ loop-preserved g c = record {
 }
 
 pub returns-in-AtEnd-clause-read : goal.returns-in-AtEnd-clause-read
-returns-in-AtEnd-clause-read g c =
-    (read_more _ _ _ c.loop.bytes.items c.read_piece.new.bytes.items c.in_ok-ended.ensures.read.0 c.loop.invariant.taken c.in_ok-ended.ensures.read.1 c.in_ok-ended.ensures.read.2,
-    c.in_ok-ended.ensures.at_end (ap Ok c.in-AtEnd.is))
+returns-in-AtEnd-clause-read g c = (
+  read_more _ _ _ c.loop.bytes.items c.read_piece.new.bytes.items c.in_ok-ended.ensures.read.0 c.loop.invariant.taken c.in_ok-ended.ensures.read.1 c.in_ok-ended.ensures.read.2,
+  c.in_ok-ended.ensures.at_end (ap Ok c.in-AtEnd.is),
+)

@@ -1,4 +1,4 @@
-use Rattle.std.proofs.Common.{codes, length}
+use Rattle.std.proofs.Common.{codes}
 use Rattle.std.proofs.lemmas.Result.{err_from_is_err_and}
 use Rattle.feed_text.specs.declared.unread.Unread.TheVariants.{Bad}
 use Rattle.feed_text.specs.Reading.{kind_at, list_at}

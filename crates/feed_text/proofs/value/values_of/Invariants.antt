@@ -1,4 +1,4 @@
-use Rattle.std.proofs.Common.{◌≡◌, ◌-◌, codes, length}
+use Rattle.std.proofs.Common.{◌≡◌, ◌-◌, codes}
 use Rattle.feed_text.specs.Reading.{more_at, list_at, value_at}
 use Rattle.feed_text.proofs.Many.{with_front}
 use Rattle.feed_text.proofs.value.values_of.Given as goal
