@@ -1,0 +1,13 @@
+pub mod Many
+pub mod Cuts
+pub mod Behind
+pub mod NumberLaws
+pub mod HexLaws
+pub mod AssembleLaws
+pub mod ShownLaws
+pub mod Framed
+pub mod HexReading
+pub mod TooLong
+pub mod ReadLaws
+pub mod ListSteps
+pub mod RunLaws

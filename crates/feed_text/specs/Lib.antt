@@ -1,0 +1,10 @@
+pub mod Words
+pub mod Lines
+pub mod Hex
+pub mod LineText
+pub mod Reading
+pub mod LineReading
+pub mod Outcome
+pub mod Meaning
+pub mod Shown
+pub mod Run
