@@ -1,12 +1,10 @@
 //! Runs each feed of the examples, and says whether the status and what was written are those that
-//! are stored; and turns the text of each into its feed, and back. The examples lie where it runs.
+//! are stored. The examples lie where it runs.
 #![tactic(auto)]
 
 use adg_io::gate::OpenGate;
 use adg_io::memory_sink::MemSink;
 use adg_io::memory_source::MemSource;
-use feed_text::assemble::assemble;
-use feed_text::show::show;
 use imadg_top::standby;
 use std::alloc::Global;
 use std::io::ErrorKind;
@@ -63,37 +61,12 @@ fn is_as_stored<H: Files + Alloc<A = Global> + Threads + Wait + Sync>(
     Ok(outcome.status == status && sink.held() == stored.as_slice())
 }
 
-/// Whether a text stands for these bytes.
-fn stands_for(alloc: Global, text: &[u8], feed: &[u8]) -> bool {
-    match assemble(alloc, text) {
-        Ok(assembled) => assembled.as_slice() == feed,
-        Err(_) => false,
-    }
-}
-
-/// Whether the text of a feed stands for it, and what is shown of the feed as well.
-fn has_its_text<H: Files + Alloc<A = Global>>(rt: &H, name: &str) -> io::Result<bool> {
-    let alloc = rt.alloc();
-    let feed = fs::read(rt, format!(in alloc; "{name}.feed")?.as_str())?;
-    let text = fs::read(rt, format!(in alloc; "{name}.txt")?.as_str())?;
-    let Ok(shown) = show(alloc, feed.as_slice()) else {
-        return Err(ErrorKind::OutOfMemory.into());
-    };
-    Ok(
-        stands_for(alloc, text.as_slice(), feed.as_slice())
-            && stands_for(alloc, shown.as_slice(), feed.as_slice()),
-    )
-}
-
 fn main(rt: HostRuntime) -> io::Result<()> {
     for (name, status) in EXAMPLES {
         if is_as_stored(&rt, name, status)? {
             println!(rt; "{name}: status {status}, as stored")?;
         } else {
             println!(rt; "{name}: another status or other lines")?;
-        }
-        if !has_its_text(&rt, name)? {
-            println!(rt; "{name}: its text stands for another feed")?;
         }
     }
     Ok(())
