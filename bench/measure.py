@@ -95,15 +95,17 @@ class Feed:
         self.payload += self.cost(redo)
 
     def end(self):
-        """Ends the delivery with a question."""
+        """Ends the delivery with a question, behind a SYNC."""
         self.deliveries += 1
         asked = self.deliveries % TABLES
         question = b"\1SELECT COUNT FROM t%d" % (asked + 1)
         redo = redo_frames(b"".join(self.redo), self.frame_size)
-        self.file.write(redo + frame(b"Q", question) + frame(b"E", b""))
+        asks = frame(b"Q", b"\1SYNC") + frame(b"Q", question)
+        self.file.write(redo + asks + frame(b"E", b""))
         rows = min(self.rows[asked], SLOTS)
         self.output.append(
-            f"d{self.deliveries} s1 c1 scn={self.scn} rows=1 col=0 row={rows}\n= {rows}\n"
+            f"d{self.deliveries} s1 c1 scn={self.scn} synced\n"
+            f"d{self.deliveries} s1 c2 scn={self.scn} rows=1 col=0 row={rows}\n= {rows}\n"
             f"d{self.deliveries} end scn={self.scn}\n"
         )
         self.redo, self.payload = [], 0
@@ -160,7 +162,7 @@ def main():
     top = os.path.dirname(os.path.dirname(os.path.abspath(__file__)))
     built = os.path.join(top, "crates", "imadg", "out", "imadg")
     program = args.program or [built, "step", "--workers", "1"]
-    most = min(args.delivery, MOST_PAYLOAD) - 1025  # room for the question
+    most = min(args.delivery, MOST_PAYLOAD) - 1025  # room for the commands
     print(f"{'vectors':>10} {'feed MiB':>9} {'seconds':>8} {'cpu s':>8} {'vectors/s':>10} {'MiB':>7} growth")
     last = None
     with tempfile.TemporaryDirectory() as folder:

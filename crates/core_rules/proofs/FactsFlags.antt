@@ -46,11 +46,11 @@ rises_behind [] e ys y h k = each_has (λ (w : LogEntry). e.scn ≤ w.scn) ys y 
 rises_behind (z ∷ xs) e ys y h k = rises_behind xs e ys y h.1 k
 
 -- what a check that holds says
-demanded : (b : Bool) (c : CheckKind) (later : Option CheckKind) → demand b c later ≡ None → (b ≡ true) × (later ≡ None)
+pub demanded : (b : Bool) (c : CheckKind) (later : Option CheckKind) → demand b c later ≡ None → (b ≡ true) × (later ≡ None)
 demanded true c later h = (refl, h)
 demanded false c later h = let x : Some c ≡ None = h in absurd cc
 
-on_table_some : (t : Option Table) (later : Table → Option CheckKind) → on_table t later ≡ None → (table : Table) × (t ≡ Some table) × (later table ≡ None)
+pub on_table_some : (t : Option Table) (later : Table → Option CheckKind) → on_table t later ≡ None → (table : Table) × (t ≡ Some table) × (later table ≡ None)
 on_table_some None later h = let x : Some NoObject ≡ None = h in absurd cc
 on_table_some (Some table) later h = (table, refl, h)
 

@@ -18,7 +18,7 @@ use Rattle.adg_model.specs.Sound.{IsLog}
 use Rattle.core_rules.proofs.Lists.{Has, has_at, has_take, has_filter_back, has_filter_map, has_append_right, contains, each_has}
 use Rattle.core_rules.proofs.FactsOrder.{scns_rise}
 
-place_same : (a b : Place) → same_place a b ≡ true → b ≡ a
+pub place_same : (a b : Place) → same_place a b ≡ true → b ≡ a
 place_same a b same =
     let both = and_parts _ _ same in
     let first = and_parts _ _ both.0 in

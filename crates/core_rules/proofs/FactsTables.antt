@@ -69,7 +69,7 @@ no_twice : (created : Bool) → created ≡ true → demand (not created) Object
 no_twice true h k = let c : Some ObjectTwice ≡ None = k in absurd cc
 no_twice false h k = true≢false (sym h)
 
-not_created : (db : Database) (o obj : ℕ) → db.created o ≡ true → demand (not (db.created obj)) ObjectTwice None ≡ None → (o == obj) ≡ true → ⊥
+pub not_created : (db : Database) (o obj : ℕ) → db.created o ≡ true → demand (not (db.created obj)) ObjectTwice None ≡ None → (o == obj) ≡ true → ⊥
 not_created db o obj h k e = no_twice (db.created obj) (subst (λ n. db.created n ≡ true) (eqb-true o obj e) h) k
 
 -- a test the other way round
@@ -137,7 +137,7 @@ some_if : (b : Bool) (x t : Option Table) (table : Table) → ((was : Table) →
 some_if true x t table k h = k table h
 some_if false x t table k h = (table, h)
 
-tied_after : (db : Database) (v : Vector) (o : ℕ) → IsTied db o → IsTied (after db v) o
+pub tied_after : (db : Database) (v : Vector) (o : ℕ) → IsTied db o → IsTied (after db v) o
 tied_after db v o tied table h = by_vector v (sym (tables_after db v o) ∙ h)
   where
     from : (w : Table) × (db.tables o ≡ Some w) → db.created o ≡ true

@@ -135,7 +135,7 @@ module _ (rows : Rows) (width : ℕ) (a : Place) where
       by_value (Some row) e = some_in row places e h
 
 -- The addresses of an extent lie in it.
-extent_holds : (obj extent : ℕ) (a : Place) → Has (extent_places obj extent) a → IsInExtent obj extent a
+pub extent_holds : (obj extent : ℕ) (a : Place) → Has (extent_places obj extent) a → IsInExtent obj extent a
 extent_holds obj extent a h =
     let b = has_flat_map_back (block_places obj) (range_with_len (16 * extent) 16) a h in
     let within = has_range_back 16 (16 * extent) b.0 b.1 in
@@ -148,42 +148,68 @@ extent_holds obj extent a h =
 
 -- Of a scan and its next extent: what is gathered at an address is the committed row at the scan's SCN.
 module _ (c : CoreState) (s : Scan) (i : Invariant c) (facts : LogFacts c.log c.frontier) (is : ScanIs c.log c.query s) where
-  -- a unit that covers the SCN has at an address that is not marked the row that it has then
-  column_row : (u : ColumnUnit) (columns : List PlacedRow) (a : Place) → Covers c.log s.select.obj s.extents s.scn u → u.columns ≡ Some columns → u.all ≡ false → u.marked a ≡ false
-      → Has (next_places s) a → option_map (padded (length s.table.kinds)) (row_in columns a) ≡ bare (rows_at c.log s.scn) (length s.table.kinds) a
-  column_row u columns a covers ready partly clean h =
-      ap (λ (o : Option (List Value)). option_map (padded (length s.table.kinds)) o) found
-      ∙ bare_twice (length s.table.kinds) (rows_at c.log s.scn a)
+  -- of a unit that covers the SCN and has its columns
+  module _ (u : ColumnUnit) (columns : List PlacedRow) (covers : Covers c.log s.select.obj s.extents s.scn u) (ready : u.columns ≡ Some columns) where
+    same_table : covers.built.table ≡ s.table
+    same_table =
+        let now : table_at c.log s.scn s.select.obj ≡ Some covers.built.table =
+        facts.same_table s.select.obj u.snapshot s.scn covers.built.table covers.snapshot covers.built.defined covers.same in
+        let both : Some covers.built.table ≡ Some s.table = sym now ∙ is.defined in
+        cc
+
+    columns_are : columns ≡ filter_map (placed_row (rows_at c.log u.snapshot) (length covers.built.table.kinds)) (next_places s)
+    columns_are =
+        let built : ColumnsAre (Some columns) (extent_rows (rows_at c.log u.snapshot) s.select.obj (length covers.built.table.kinds) s.extents) =
+        subst (λ (o : Option (List PlacedRow)). ColumnsAre o (extent_rows (rows_at c.log u.snapshot) s.select.obj (length covers.built.table.kinds) s.extents)) ready covers.built.columns in
+        built ∙ filter_map_pieces (placed_row (rows_at c.log u.snapshot) (length covers.built.table.kinds)) (block_places s.select.obj) (range_with_len (16 * s.extents) 16)
+
+    -- at an address they have the row at the unit's snapshot, as wide as the object is now
+    found_row : (a : Place) → Has (next_places s) a → row_in columns a ≡ bare (rows_at c.log u.snapshot) (length s.table.kinds) a
+    found_row a h =
+        ap (λ (rs : List PlacedRow). row_in rs a) columns_are
+        ∙ row_within (rows_at c.log u.snapshot) (length covers.built.table.kinds) a (next_places s) h
+        ∙ ap (λ (t : Table). option_map (padded (length t.kinds)) (rows_at c.log u.snapshot a)) same_table
+
+    wide_row : (a : Place) → Has (next_places s) a → option_map (padded (length s.table.kinds)) (row_in columns a) ≡ row_in columns a
+    wide_row a h =
+        ap (λ (o : Option (List Value)). option_map (padded (length s.table.kinds)) o) (found_row a h)
+        ∙ bare_twice (length s.table.kinds) (rows_at c.log u.snapshot a)
+        ∙ sym (found_row a h)
+
+    -- where it is not marked it has the row then
+    column_row : (a : Place) → u.all ≡ false → u.marked a ≡ false → Has (next_places s) a
+        → option_map (padded (length s.table.kinds)) (row_in columns a) ≡ bare (rows_at c.log s.scn) (length s.table.kinds) a
+    column_row a partly clean h = wide_row a h ∙ found_row a h ∙ ap (λ (o : Option (List Value)). option_map (padded (length s.table.kinds)) o) (sym same_row)
+      where
+        untouched : NotTouched c.log u.snapshot s.scn a
+        untouched t commit at above upto touches = by_cover (covers.marked t commit at above upto)
+          where
+            by_cover : IsCovered c.log t s.select.obj s.extents u → ⊥
+            by_cover (inl whole) = true≢false (sym whole ∙ partly)
+            by_cover (inr each) = true≢false (sym (each a touches (extent_holds s.select.obj s.extents a h)) ∙ clean)
+
+        same_row : rows_at c.log s.scn a ≡ rows_at c.log u.snapshot a
+        same_row = facts.same_row a u.snapshot s.scn covers.snapshot untouched
+
+  -- what a look shows at an address is as wide as the object
+  pub look_is_wide : (l : Look) → next_look c s ≡ Some l → (a : Place) → Has (next_places s) a → option_map (padded (length s.table.kinds)) (row_in l.rows a) ≡ row_in l.rows a
+  look_is_wide l sees a h = by_unit (c.units s.select.obj s.extents) refl sees
     where
-      same_table : covers.built.table ≡ s.table
-      same_table =
-          let now : table_at c.log s.scn s.select.obj ≡ Some covers.built.table =
-          facts.same_table s.select.obj u.snapshot s.scn covers.built.table covers.snapshot covers.built.defined covers.same in
-          let both : Some covers.built.table ≡ Some s.table = sym now ∙ is.defined in
-          cc
-
-      untouched : NotTouched c.log u.snapshot s.scn a
-      untouched t commit at above upto touches = by_cover (covers.marked t commit at above upto)
+      by_unit : (unit : Option ColumnUnit) → c.units s.select.obj s.extents ≡ unit → look_at s.scn unit ≡ Some l
+          → option_map (padded (length s.table.kinds)) (row_in l.rows a) ≡ row_in l.rows a
+      by_unit None e k = let n : None ≡ Some l = k in absurd cc
+      by_unit (Some u) e k = by_parts u.columns refl (not u.all && nat_le u.snapshot s.scn) refl k
         where
-          by_cover : IsCovered c.log t s.select.obj s.extents u → ⊥
-          by_cover (inl whole) = true≢false (sym whole ∙ partly)
-          by_cover (inr each) = true≢false (sym (each a touches (extent_holds s.select.obj s.extents a h)) ∙ clean)
-
-      same_row : rows_at c.log s.scn a ≡ rows_at c.log u.snapshot a
-      same_row = facts.same_row a u.snapshot s.scn covers.snapshot untouched
-
-      columns_are : columns ≡ filter_map (placed_row (rows_at c.log u.snapshot) (length covers.built.table.kinds)) (next_places s)
-      columns_are =
-          let built : ColumnsAre (Some columns) (extent_rows (rows_at c.log u.snapshot) s.select.obj (length covers.built.table.kinds) s.extents) =
-          subst (λ (o : Option (List PlacedRow)). ColumnsAre o (extent_rows (rows_at c.log u.snapshot) s.select.obj (length covers.built.table.kinds) s.extents)) ready covers.built.columns in
-          built ∙ filter_map_pieces (placed_row (rows_at c.log u.snapshot) (length covers.built.table.kinds)) (block_places s.select.obj) (range_with_len (16 * s.extents) 16)
-
-      found : row_in columns a ≡ option_map (padded (length s.table.kinds)) (rows_at c.log s.scn a)
-      found =
-          ap (λ (rs : List PlacedRow). row_in rs a) columns_are
-          ∙ row_within (rows_at c.log u.snapshot) (length covers.built.table.kinds) a (next_places s) h
-          ∙ ap (λ (t : Table). option_map (padded (length t.kinds)) (rows_at c.log u.snapshot a)) same_table
-          ∙ ap (λ (o : Option (List Value)). option_map (padded (length s.table.kinds)) o) (sym same_row)
+          by_parts : (columns : Option (List PlacedRow)) → u.columns ≡ columns → (usable : Bool) → (not u.all && nat_le u.snapshot s.scn) ≡ usable → look_if usable columns u.marked ≡ Some l
+              → option_map (padded (length s.table.kinds)) (row_in l.rows a) ≡ row_in l.rows a
+          by_parts None ready usable t k = let n : None ≡ Some l = k in absurd cc
+          by_parts (Some columns) ready false t k = let n : None ≡ Some l = k in absurd cc
+          by_parts (Some columns) ready true t k =
+              subst (λ (rs : List PlacedRow). option_map (padded (length s.table.kinds)) (row_in rs a) ≡ row_in rs a) (rows_of columns k)
+              (wide_row u columns (units_cover c s.select.obj s.extents s.scn u i e (leb-true u.snapshot s.scn (and_parts (not u.all) (nat_le u.snapshot s.scn) t).1) is.scn) ready a h)
+            where
+              rows_of : (columns : List PlacedRow) → Some (record { rows = columns; marked = u.marked }) ≡ Some l → columns ≡ l.rows
+              rows_of columns k = cc
 
   gathered_row : (a : Place) → Has (next_places s) a → gathered_at (next_look c s) (rows_at c.log s.scn) (length s.table.kinds) a ≡ bare (rows_at c.log s.scn) (length s.table.kinds) a
   gathered_row a h = by_unit (c.units s.select.obj s.extents) refl
@@ -211,7 +237,7 @@ module _ (c : CoreState) (s : Scan) (i : Invariant c) (facts : LogFacts c.log c.
                   ≡ bare (rows_at c.log s.scn) (length s.table.kinds) a
               by_mark true m = refl
               by_mark false m =
-                  column_row u columns a (units_cover c s.select.obj s.extents s.scn u i e (leb-true u.snapshot s.scn parts.1) is.scn) ready (partly u.all parts.0) m h
+                  column_row u columns (units_cover c s.select.obj s.extents s.scn u i e (leb-true u.snapshot s.scn parts.1) is.scn) ready a (partly u.all parts.0) m h
 
   next_rows : gathered (next_look c s) (rows_at c.log s.scn) (length s.table.kinds) (next_places s) ≡ filter_map (bare (rows_at c.log s.scn) (length s.table.kinds)) (next_places s)
   next_rows = filter_map_same (gathered_at (next_look c s) (rows_at c.log s.scn) (length s.table.kinds)) (bare (rows_at c.log s.scn) (length s.table.kinds)) (next_places s) gathered_row
@@ -249,7 +275,7 @@ one_of (Some look) rows width a = by_test (look.marked a)
     by_test true = let e : size (option_map (padded width) (rows a)) ≡ size (rows a) = size_map (padded width) (rows a) in omega arith
     by_test false = let e : size (option_map (padded width) (row_in look.rows a)) ≡ size (row_in look.rows a) = size_map (padded width) (row_in look.rows a) in omega arith
 
-counted_once : (look : Option Look) (rows : Rows) (width : ℕ) (places : List Place)
+pub counted_once : (look : Option Look) (rows : Rows) (width : ℕ) (places : List Place)
     → count_from_columns look places + count_from_blocks look rows places ≡ length (gathered look rows width places)
 counted_once look rows width [] = refl
 counted_once look rows width (p ∷ ps) =

@@ -38,6 +38,7 @@ pub mod Populated
 pub mod Installed
 pub mod ExactEvents
 pub mod FactsTables
+pub mod RowFits
 pub mod FactsFlags
 pub mod ExactSessions
 pub mod Exact

@@ -9,11 +9,11 @@ use Rattle.adg_model.specs.Feed.{Item, FeedFails}
 use Rattle.adg_model.specs.Sound.{IsRedoFault}
 use Rattle.adg_model.proofs.FeedWhole.{deliveries_are_one, whole_excludes_fault}
 use Rattle.feed_run.specs.declared.outcome.Outcome.{Outcome}
-use Rattle.feed_run.specs.Ending.{Ending, FeedRead, WordsRefused, FeedRefused, RedoRefused, SourceFailed, SinkFailed, NoMemory, NotBuilt, HasLine, Stops, IsCutTranscript, HasRedoFault, RunEnds, UsageEnds, line_of, status_of}
+use Rattle.feed_run.specs.Ending.{Ending, FeedRead, WordsRefused, FeedRefused, RedoRefused, SourceFailed, SinkFailed, NoMemory, HasLine, Stops, IsCutTranscript, HasRedoFault, RunEnds, UsageEnds, line_of, status_of}
 use Rattle.feed_run.specs.Headline.{HasCauses, Headline, IsGoodFeed, IsComplete, counted}
 use Rattle.feed_run.specs.Progress.{RunStops, WrotePiece, Tells, IsEnded, feed_ending}
 use Rattle.feed_run.specs.Report.{usage_line}
-use Rattle.feed_run.specs.Standby.{Meaning, Unbuilt, deliveries_of}
+use Rattle.feed_run.specs.Standby.{Meaning, deliveries_of}
 use Rattle.feed_run.specs.View.{SourceView, SinkView}
 use Rattle.feed_run.proofs.ProgressLaws.{appends_none, appends_join}
 
@@ -73,11 +73,11 @@ pub ended_feed : (kind : FeedKind) (byte : ℕ) (k k' : SinkView) (before after 
 ended_feed kind byte k k' before after result line r m e h =
     subst (λ (ending : Ending). IsEnded ending k k' before after result) (sym (refused_ending kind byte r m)) (ended_told (FeedRefused kind byte) k k' before after result line e h)
 
--- ---- the run of a feed, over what the bytes mean and what is not built
+-- ---- the run of a feed, over what the bytes mean
 
-module _ (meaning : Meaning) (unbuilt : Unbuilt) where
+module _ (meaning : Meaning) where
   -- an ending of whose line something was left has a line
-  line_told : (e : Ending) (source : Option (List ℕ)) (taken output front cut : List ℕ) → Stops meaning unbuilt e source taken output → front ++ cut ≡ line_of e → cut ≢ [] → HasLine e
+  line_told : (e : Ending) (source : Option (List ℕ)) (taken output front cut : List ℕ) → Stops meaning e source taken output → front ++ cut ≡ line_of e → cut ≢ [] → HasLine e
   line_told FeedRead source taken output front cut s split some = absurd (some (nothing_cut front cut split))
   line_told WordsRefused source taken output front cut s split some = absurd s
   line_told (FeedRefused kind byte) source taken output front cut s split some = tt
@@ -85,23 +85,21 @@ module _ (meaning : Meaning) (unbuilt : Unbuilt) where
   line_told SourceFailed source taken output front cut s split some = absurd (some (nothing_cut front cut split))
   line_told SinkFailed source taken output front cut s split some = absurd (some (nothing_cut front cut split))
   line_told NoMemory source taken output front cut s split some = absurd (some (nothing_cut front cut split))
-  line_told NotBuilt source taken output front cut s split some = tt
 
   -- the ending's line was written whole
-  ends_of : (ending : Ending) (source : Option (List ℕ)) (taken output : List ℕ) → Stops meaning unbuilt ending source taken output → RunEnds meaning unbuilt source ending taken (output ++ line_of ending)
+  ends_of : (ending : Ending) (source : Option (List ℕ)) (taken output : List ℕ) → Stops meaning ending source taken output → RunEnds meaning source ending taken (output ++ line_of ending)
   ends_of FeedRead source taken output s = record { before = output; stops = s; then_line = refl }
   ends_of WordsRefused source taken output s = absurd s
   ends_of (FeedRefused kind byte) source taken output s = record { before = output; stops = s; then_line = refl }
   ends_of (RedoRefused fault) source taken output s = record { before = output; stops = s; then_line = refl }
   ends_of SourceFailed source taken output s = record { before = output; stops = s; then_line = refl }
   ends_of SinkFailed source taken output s = inl (subst (IsCutTranscript meaning taken) (sym (append-nil output)) s)
-  ends_of NoMemory source taken output s = inl (subst (λ (w : List ℕ). Stops meaning unbuilt NoMemory source taken w) (sym (append-nil output)) s)
-  ends_of NotBuilt source taken output s = record { before = output; stops = s; then_line = refl }
+  ends_of NoMemory source taken output s = inl (subst (λ (w : List ℕ). Stops meaning NoMemory source taken w) (sym (append-nil output)) s)
 
   -- the feed was run
   pub headline_run : (source source_now : SourceView) (sink middle sink_now : SinkView) (ending : Ending) (taken before after status : ℕ)
-      → RunStops meaning unbuilt source.left source_now.left sink.held middle.held taken before ending → HasCauses ending source source_now sink middle → IsEnded ending middle sink_now before after status
-      → Headline (RunEnds meaning unbuilt source.left) source source_now sink sink_now (record { status = status; taken = taken; written = after })
+      → RunStops meaning source.left source_now.left sink.held middle.held taken before ending → HasCauses ending source source_now sink middle → IsEnded ending middle sink_now before after status
+      → Headline (RunEnds meaning source.left) source source_now sink sink_now (record { status = status; taken = taken; written = after })
   headline_run source source_now sink middle sink_now ending taken before after status run causes (inl (inl (p, is))) = record {
     taken = run.bytes;
     written = run.output ++ line_of ending;
@@ -157,7 +155,7 @@ module _ (meaning : Meaning) (unbuilt : Unbuilt) where
     written_count = p.count run.output run.written_count;
     ending = NoMemory;
     status = is;
-    ends = inr (record { ending = ending; told = told; stops = subst (λ (w : List ℕ). Stops meaning unbuilt ending source.left run.bytes w) (sym (append-nil run.output)) run.stops });
+    ends = inr (record { ending = ending; told = told; stops = subst (λ (w : List ℕ). Stops meaning ending source.left run.bytes w) (sym (append-nil run.output)) run.stops });
     causes = record {
       read_fault = λ s. absurd (subst IsWant s tt);
       no_read_fault = λ s. causes.no_read_fault (line_source ending told);
@@ -175,22 +173,21 @@ module _ (meaning : Meaning) (unbuilt : Unbuilt) where
       good.no_fault ds p.2.0 fault p.2.1 (subst (λ (t : ℕ). IsRedoFault t (deliveries_of ds) fault) p.0 h.bad)
 
   complete_ends : (source rest : Option (List ℕ)) (reads reads_now writes writes_now status : ℕ) (taken written : List ℕ) (ending : Ending)
-      → status ≡ status_of ending → RunEnds meaning unbuilt source ending taken written → Consumes source rest taken → (ending ≡ SourceFailed → Rose reads reads_now) → (ending ≡ SinkFailed → Rose writes writes_now)
-      → (bytes : List ℕ) → source ≡ Some bytes → IsGoodFeed bytes → (Rose reads reads_now → ⊥) → (Rose writes writes_now → ⊥) → status ≢ 7 → (status ≡ 0) ⊎ (status ≡ 6)
-  complete_ends source rest reads reads_now writes writes_now status taken written FeedRead e ends took rf wf bytes is good no_read no_write built = inl e
-  complete_ends source rest reads reads_now writes writes_now status taken written WordsRefused e ends took rf wf bytes is good no_read no_write built = absurd ends
-  complete_ends source rest reads reads_now writes writes_now status taken written (FeedRefused kind byte) e ends took rf wf bytes is good no_read no_write built =
+      → status ≡ status_of ending → RunEnds meaning source ending taken written → Consumes source rest taken → (ending ≡ SourceFailed → Rose reads reads_now) → (ending ≡ SinkFailed → Rose writes writes_now)
+      → (bytes : List ℕ) → source ≡ Some bytes → IsGoodFeed bytes → (Rose reads reads_now → ⊥) → (Rose writes writes_now → ⊥) → (status ≡ 0) ⊎ (status ≡ 6)
+  complete_ends source rest reads reads_now writes writes_now status taken written FeedRead e ends took rf wf bytes is good no_read no_write = inl e
+  complete_ends source rest reads reads_now writes writes_now status taken written WordsRefused e ends took rf wf bytes is good no_read no_write = absurd ends
+  complete_ends source rest reads reads_now writes writes_now status taken written (FeedRefused kind byte) e ends took rf wf bytes is good no_read no_write =
       let h = ends.stops in
       let fails = subst (λ (o : Option (List ℕ)). IfSome o (λ b. FeedFails b h.threads h.sessions h.deliveries kind byte)) is h.fails in
       absurd (whole_excludes_fault bytes good.threads good.sessions good.deliveries good.unread h.threads h.sessions h.deliveries kind byte good.begins fails)
-  complete_ends source rest reads reads_now writes writes_now status taken written (RedoRefused fault) e ends took rf wf bytes is good no_read no_write built =
+  complete_ends source rest reads reads_now writes writes_now status taken written (RedoRefused fault) e ends took rf wf bytes is good no_read no_write =
       absurd (no_redo_fault bytes rest taken ends.before fault good (subst (λ (o : Option (List ℕ)). Consumes o rest taken) is took) ends.stops)
-  complete_ends source rest reads reads_now writes writes_now status taken written SourceFailed e ends took rf wf bytes is good no_read no_write built = absurd (no_read (rf refl))
-  complete_ends source rest reads reads_now writes writes_now status taken written SinkFailed e ends took rf wf bytes is good no_read no_write built = absurd (no_write (wf refl))
-  complete_ends source rest reads reads_now writes writes_now status taken written NoMemory e ends took rf wf bytes is good no_read no_write built = inr e
-  complete_ends source rest reads reads_now writes writes_now status taken written NotBuilt e ends took rf wf bytes is good no_read no_write built = absurd (built e)
+  complete_ends source rest reads reads_now writes writes_now status taken written SourceFailed e ends took rf wf bytes is good no_read no_write = absurd (no_read (rf refl))
+  complete_ends source rest reads reads_now writes writes_now status taken written SinkFailed e ends took rf wf bytes is good no_read no_write = absurd (no_write (wf refl))
+  complete_ends source rest reads reads_now writes writes_now status taken written NoMemory e ends took rf wf bytes is good no_read no_write = inr e
 
-  pub complete : (source source_now : SourceView) (sink sink_now : SinkView) (outcome : Outcome) → Headline (RunEnds meaning unbuilt source.left) source source_now sink sink_now outcome → IsComplete source source_now sink sink_now outcome
+  pub complete : (source source_now : SourceView) (sink sink_now : SinkView) (outcome : Outcome) → Headline (RunEnds meaning source.left) source source_now sink sink_now outcome → IsComplete source source_now sink sink_now outcome
   complete source source_now sink sink_now outcome h bytes is good =
       complete_ends source.left source_now.left source.faults source_now.faults sink.faults sink_now.faults outcome.status h.taken h.written h.ending h.status h.ends h.took h.causes.read_fault h.causes.write_fault bytes is good
 

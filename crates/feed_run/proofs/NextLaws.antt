@@ -51,7 +51,7 @@ short_texts st before (Redo t b ∷ items) h = short_texts st (before ++ Redo t 
 short_texts st before (Asks s t ∷ items) h = (h.0.1, short_texts st (before ++ Asks s t ∷ []) items h.1)
 short_texts st before (Schedules b ∷ items) h = short_texts st (before ++ Schedules b ∷ []) items h.1
 
-module _ (answered : Meaning) (d : RawDelivery) (next : IsNext answered d) where
+module _ {T : Type 0} (answered : T → Meaning) (d : RawDelivery) (next : IsNext answered d) where
   is_delivery : IsDelivery (after_deliveries (start next.threads next.sessions) next.before) next.items
   is_delivery = last_delivery (start next.threads next.sessions) next.before next.items next.feed.1
 

@@ -23,7 +23,7 @@ use Rattle.feed_run.specs.declared.standby.Unanswered.TheVariants as unanswered
 use Rattle.feed_run.specs.Ending.{IsFeedFront, HasRunFront, FeedRead, SinkFailed, Stops, HasFeedFault, read_bytes}
 use Rattle.feed_run.specs.Headline.{counted}
 use Rattle.feed_run.specs.Progress.{IsAt, RunStops, WroteFront, WrotePiece, Writes, feed_ending, ending_of}
-use Rattle.feed_run.specs.Standby.{Meaning, Unbuilt, IsNext, Begins, Responds, SomeAnswered, deliveries_of}
+use Rattle.feed_run.specs.Standby.{Meaning, IsNext, Responds, SomeAnswered, deliveries_of}
 use Rattle.feed_run.specs.View.{SinkView}
 use Rattle.feed_run.proofs.StoppedReading.{IsOpeningFront, IsDeliveryFront, IsFrontBefore, opening_read, opening_memory, opening_shown, opening_before, delivery_read, delivery_memory, delivery_shown, delivery_found, delivery_before, delivery_none}
 
@@ -140,8 +140,8 @@ abbrev pub Follows : Meaning → Meaning → Type 0
 Follows p q = (threads sessions : ℕ) (ds : List RawDelivery) (out : List ℕ) → p threads sessions ds out → q threads sessions ds out
 
 -- what a standby has answered some standby has
-pub some_of : {S : Type 0} (answered : S → Meaning) (standby : S) → Follows (answered standby) (SomeAnswered answered)
-some_of answered standby threads sessions ds out h = inr (standby, h)
+pub some_of : {S T : Type 0} (answered : S → T → Meaning) (standby : S) (setup : T) → Follows (answered standby setup) (SomeAnswered answered setup)
+some_of answered standby setup threads sessions ds out h = inr (standby, h)
 
 -- The facts of one delivery more that was read where the run stands.
 pub record OneRead (source to : Option (List ℕ)) (threads sessions : ℕ) (ds : List (List Item)) (new : FeedState) (d : RawDelivery) : Type 0 where
@@ -167,19 +167,6 @@ module _ (meaning : Meaning) (source from sink held : Option (List ℕ)) (old : 
         deliveries = ap (λ (k : RawDelivery). deliveries_of at.deliveries ++ k ∷ []) r.brings ∙ sym (of_more at.deliveries r.items);
       }
 
-  -- it may be answered
-  abbrev pub is_next : IsNext meaning d
-  is_next = record {
-    threads = at.threads;
-    sessions = at.sessions;
-    before = at.deliveries;
-    items = one_read.items;
-    written = at.output;
-    has = at.ran;
-    feed = one_read.feed;
-    brings = one_read.brings;
-  }
-
   -- it was answered and its lines were written
   pub at_more : (q : Meaning) (k k' : SinkView) (written' : ℕ) (printed : List ℕ) → held ≡ k.held → q at.threads at.sessions (deliveries_of at.deliveries ++ d ∷ []) (at.output ++ printed)
       → WrotePiece k k' written written' printed → IsAt q source to sink k'.held new written'
@@ -200,21 +187,21 @@ module _ (meaning : Meaning) (source from sink held : Option (List ℕ)) (old : 
 -- ---- how the run stops
 
 -- a fault by its kind
-stops_by_kind : (meaning : Meaning) (unbuilt : Unbuilt) (kind : FeedKind) (byte : ℕ) (source : Option (List ℕ)) (taken written : List ℕ) → (IsOfBytes kind → HasFeedFault meaning source kind byte taken written)
+stops_by_kind : (meaning : Meaning) (kind : FeedKind) (byte : ℕ) (source : Option (List ℕ)) (taken written : List ℕ) → (IsOfBytes kind → HasFeedFault meaning source kind byte taken written)
     → (kind ≡ kinds.Read → HasRunFront meaning taken written) → (kind ≡ kinds.Memory → HasRunFront meaning taken written ⊎ HasRunFront meaning (without_last taken) written)
-    → Stops meaning unbuilt (feed_ending kind byte) source taken written
-stops_by_kind meaning unbuilt kinds.BadMagic byte source taken written f r m = f tt
-stops_by_kind meaning unbuilt kinds.BadTag byte source taken written f r m = f tt
-stops_by_kind meaning unbuilt kinds.BadOrder byte source taken written f r m = f tt
-stops_by_kind meaning unbuilt kinds.BadLength byte source taken written f r m = f tt
-stops_by_kind meaning unbuilt kinds.TooLarge byte source taken written f r m = f tt
-stops_by_kind meaning unbuilt kinds.TooManyDeliveries byte source taken written f r m = f tt
-stops_by_kind meaning unbuilt kinds.BadThread byte source taken written f r m = f tt
-stops_by_kind meaning unbuilt kinds.BadSession byte source taken written f r m = f tt
-stops_by_kind meaning unbuilt kinds.TooManyCommands byte source taken written f r m = f tt
-stops_by_kind meaning unbuilt kinds.Truncated byte source taken written f r m = f tt
-stops_by_kind meaning unbuilt kinds.Read byte source taken written f r m = r refl
-stops_by_kind meaning unbuilt kinds.Memory byte source taken written f r m = m refl
+    → Stops meaning (feed_ending kind byte) source taken written
+stops_by_kind meaning kinds.BadMagic byte source taken written f r m = f tt
+stops_by_kind meaning kinds.BadTag byte source taken written f r m = f tt
+stops_by_kind meaning kinds.BadOrder byte source taken written f r m = f tt
+stops_by_kind meaning kinds.BadLength byte source taken written f r m = f tt
+stops_by_kind meaning kinds.TooLarge byte source taken written f r m = f tt
+stops_by_kind meaning kinds.TooManyDeliveries byte source taken written f r m = f tt
+stops_by_kind meaning kinds.BadThread byte source taken written f r m = f tt
+stops_by_kind meaning kinds.BadSession byte source taken written f r m = f tt
+stops_by_kind meaning kinds.TooManyCommands byte source taken written f r m = f tt
+stops_by_kind meaning kinds.Truncated byte source taken written f r m = f tt
+stops_by_kind meaning kinds.Read byte source taken written f r m = r refl
+stops_by_kind meaning kinds.Memory byte source taken written f r m = m refl
 
 -- bytes of a delivery come after whole deliveries that were answered
 module _ (meaning : Meaning) (threads sessions : ℕ) (ds : List (List Item)) (out : List ℕ) (feed : IsFeed threads sessions ds) (ran : meaning threads sessions (deliveries_of ds) out) where
@@ -241,13 +228,13 @@ later_fails (Some bytes) (Some left) threads sessions ds offset st kind byte fee
       fails = subst (λ (n : ℕ). DeliveryFails (after_deliveries (start threads sessions) ds) n left kind byte) (took.counted ∙ zero-add _) (subst (λ (s : Standing). DeliveryFails s offset left kind byte) same h);
     })
 
--- Where the run stands before a delivery, over what the bytes mean and what is not built.
-module _ (p meaning : Meaning) (unbuilt : Unbuilt) (means : Follows p meaning) (source from sink held : Option (List ℕ)) (old : FeedState) (written : ℕ) (at : IsAt p source from sink held old written) (to : Option (List ℕ)) (new : FeedState) where
+-- Where the run stands before a delivery, over what the bytes mean.
+module _ (p meaning : Meaning) (means : Follows p meaning) (source from sink held : Option (List ℕ)) (old : FeedState) (written : ℕ) (at : IsAt p source from sink held old written) (to : Option (List ℕ)) (new : FeedState) where
   ran_so : meaning at.threads at.sessions (deliveries_of at.deliveries) at.output
   ran_so = means at.threads at.sessions (deliveries_of at.deliveries) at.output at.ran
 
   -- the stop frame was read
-  pub stop_end : ReadEnd old new from to → RunStops meaning unbuilt source to sink held new.taken written FeedRead
+  pub stop_end : ReadEnd old new from to → RunStops meaning source to sink held new.taken written FeedRead
   stop_end r = record {
     bytes = read_bytes at.threads at.sessions at.deliveries ++ stop_bytes;
     output = at.output;
@@ -282,7 +269,7 @@ module _ (p meaning : Meaning) (unbuilt : Unbuilt) (means : Follows p meaning) (
         ran = ran_so;
       }
 
-  pub stop_fault : (fault : FeedFault) → NoDelivery old new from to fault → RunStops meaning unbuilt source to sink held new.taken written (feed_ending fault.kind fault.byte)
+  pub stop_fault : (fault : FeedFault) → NoDelivery old new from to fault → RunStops meaning source to sink held new.taken written (feed_ending fault.kind fault.byte)
   stop_fault fault r =
       let st : Standing = after_deliveries (start at.threads at.sessions) at.deliveries in
       let earlier : List ℕ = read_bytes at.threads at.sessions at.deliveries in
@@ -295,7 +282,7 @@ module _ (p meaning : Meaning) (unbuilt : Unbuilt) (means : Follows p meaning) (
         took = took_join source from to old.taken new.taken _ _ at.took r.took;
         wrote = at.wrote;
         written_count = at.written_count;
-        stops = stops_by_kind meaning unbuilt fault.kind fault.byte source (earlier ++ bytes) at.output (later_fault fault r)
+        stops = stops_by_kind meaning fault.kind fault.byte source (earlier ++ bytes) at.output (later_fault fault r)
             (λ e. run_front meaning at.threads at.sessions at.deliveries at.output at.feed ran_so bytes (delivery_read st earlier r.before r.rest to fault.kind e items stops))
             (λ e. ⊎_elim (λ front. inl (run_front meaning at.threads at.sessions at.deliveries at.output at.feed ran_so bytes front))
             (λ front. inr (run_before meaning at.threads at.sessions at.deliveries at.output at.feed ran_so bytes front))
@@ -304,10 +291,9 @@ module _ (p meaning : Meaning) (unbuilt : Unbuilt) (means : Follows p meaning) (
 
   -- why a delivery that was read was not answered
   unanswered_stops : (ds : List (List Item)) (items : List Item) (out : List ℕ) (one : IsFeed at.threads at.sessions (ds ++ items ∷ [])) → IsFeed at.threads at.sessions ds → meaning at.threads at.sessions (deliveries_of ds) out
-      → (q : Meaning) (before : List ℕ) (u : Unanswered) → Responds q unbuilt at.threads at.sessions (deliveries_of (ds ++ items ∷ [])) before (Err u)
-      → Stops meaning unbuilt (ending_of (Err (refusals.Delivery u))) source (read_bytes at.threads at.sessions (ds ++ items ∷ [])) out
+      → (q : Meaning) (before : List ℕ) (u : Unanswered) → Responds q at.threads at.sessions (deliveries_of (ds ++ items ∷ [])) before (Err u)
+      → Stops meaning (ending_of (Err (refusals.Delivery u))) source (read_bytes at.threads at.sessions (ds ++ items ∷ [])) out
   unanswered_stops ds items out feed earlier ran q before (unanswered.Redo fault) h = record { one = record { threads = at.threads; sessions = at.sessions; deliveries = ds; last = items; feed = feed; read = refl; ran = ran }; bad = h }
-  unanswered_stops ds items out feed earlier ran q before unanswered.NotBuilt h = inr (record { one = record { threads = at.threads; sessions = at.sessions; deliveries = ds; last = items; feed = feed; read = refl; ran = ran }; asks = h })
   unanswered_stops ds items out feed earlier ran q before unanswered.Memory h =
       let st : Standing = after_deliveries (start at.threads at.sessions) ds in
       let are = last_delivery (start at.threads at.sessions) ds items feed.1 in
@@ -315,8 +301,8 @@ module _ (p meaning : Meaning) (unbuilt : Unbuilt) (means : Follows p meaning) (
       (run_before meaning at.threads at.sessions ds out earlier ran (delivery_bytes items) (delivery_before st (read_bytes at.threads at.sessions ds) items are.0)))
 
   -- a delivery was read and not answered
-  pub stop_delivery : (d : RawDelivery) (r : ReadDelivery old new from to d) (q : Meaning) (before : List ℕ) (u : Unanswered) → Responds q unbuilt at.threads at.sessions (deliveries_of at.deliveries ++ d ∷ []) before (Err u)
-      → RunStops meaning unbuilt source to sink held new.taken written (ending_of (Err (refusals.Delivery u)))
+  pub stop_delivery : (d : RawDelivery) (r : ReadDelivery old new from to d) (q : Meaning) (before : List ℕ) (u : Unanswered) → Responds q at.threads at.sessions (deliveries_of at.deliveries ++ d ∷ []) before (Err u)
+      → RunStops meaning source to sink held new.taken written (ending_of (Err (refusals.Delivery u)))
   stop_delivery d r q before u h =
       let one = one_read p source from sink held old written at to new d r in
       record {
@@ -326,12 +312,12 @@ module _ (p meaning : Meaning) (unbuilt : Unbuilt) (means : Follows p meaning) (
         wrote = at.wrote;
         written_count = at.written_count;
         stops = unanswered_stops at.deliveries one.items at.output one.feed at.feed ran_so q before u
-            (subst (λ (l : List RawDelivery). Responds q unbuilt at.threads at.sessions l before (Err u)) one.deliveries h);
+            (subst (λ (l : List RawDelivery). Responds q at.threads at.sessions l before (Err u)) one.deliveries h);
       }
 
   -- the lines of a delivery were not all taken
   stop_write : (d : RawDelivery) (r : ReadDelivery old new from to d) (printed : List ℕ) (k k' : SinkView) (written' : ℕ) → held ≡ k.held → meaning at.threads at.sessions (deliveries_of at.deliveries ++ d ∷ []) (at.output ++ printed)
-      → WroteFront k k' written written' printed → RunStops meaning unbuilt source to sink k'.held new.taken written' SinkFailed
+      → WroteFront k k' written written' printed → RunStops meaning source to sink k'.held new.taken written' SinkFailed
   stop_write d r printed k k' written' same ran wrote =
       let one = one_read p source from sink held old written at to new d r in
       record {
@@ -354,13 +340,13 @@ module _ (p meaning : Meaning) (unbuilt : Unbuilt) (means : Follows p meaning) (
 
   -- the sink did not take all of the lines
   pub stop_put : (d : RawDelivery) (r : ReadDelivery old new from to d) (printed : List ℕ) (k k' : SinkView) (written' : ℕ) (refusal : Refusal) → held ≡ k.held → meaning at.threads at.sessions (deliveries_of at.deliveries ++ d ∷ []) (at.output ++ printed)
-      → Writes k k' written written' printed (Err refusal) → RunStops meaning unbuilt source to sink k'.held new.taken written' (ending_of (Err refusal))
+      → Writes k k' written written' printed (Err refusal) → RunStops meaning source to sink k'.held new.taken written' (ending_of (Err refusal))
   stop_put d r printed k k' written' (refusals.Feed f) same ran h = absurd h
   stop_put d r printed k k' written' (refusals.Delivery u) same ran h = absurd h
   stop_put d r printed k k' written' refusals.Write same ran h = stop_write d r printed k k' written' same ran h
 
 -- Nothing was answered yet.
-module _ (meaning : Meaning) (unbuilt : Unbuilt) (nothing : (threads sessions : ℕ) → meaning threads sessions [] []) (source to sink : Option (List ℕ)) (new : FeedState) where
+module _ (meaning : Meaning) (nothing : (threads sessions : ℕ) → meaning threads sessions [] []) (source to sink : Option (List ℕ)) (new : FeedState) where
   none_run : (bytes : List ℕ) → IsOpeningFront bytes → HasRunFront meaning bytes []
   none_run bytes front = record { threads = 1; sessions = 1; deliveries = []; front = inl (refl, front); ran = nothing 1 1 }
 
@@ -369,14 +355,14 @@ module _ (meaning : Meaning) (unbuilt : Unbuilt) (nothing : (threads sessions : 
   opening_fails (Some bytes) kind byte h = inl (refl, h)
 
   -- the header has a fault
-  pub stop_header : (fault : FeedFault) → NoHeader fresh new source to fault → RunStops meaning unbuilt source to sink sink new.taken 0 (feed_ending fault.kind fault.byte)
+  pub stop_header : (fault : FeedFault) → NoHeader fresh new source to fault → RunStops meaning source to sink sink new.taken 0 (feed_ending fault.kind fault.byte)
   stop_header fault r = record {
     bytes = r.bytes;
     output = [];
     took = r.took;
     wrote = appends_none sink;
     written_count = refl;
-    stops = stops_by_kind meaning unbuilt fault.kind fault.byte source r.bytes [] (λ shown. record {
+    stops = stops_by_kind meaning fault.kind fault.byte source r.bytes [] (λ shown. record {
       threads = 1;
       sessions = 1;
       deliveries = [];
@@ -389,28 +375,37 @@ module _ (meaning : Meaning) (unbuilt : Unbuilt) (nothing : (threads sessions : 
         (λ e. ⊎_elim (λ f. inl (none_run r.bytes f)) (λ f. inr (none_run (without_last r.bytes) f)) (opening_memory fault to r.bytes e r.stops));
   }
 
-  -- why no standby began after the header
-  unbegun_stops : {S : Type 0} (answered : S → Meaning) (u : Unanswered) → HasRead source to new → Begins answered unbuilt new.standing.threads new.standing.sessions (Err u)
-      → Stops meaning unbuilt (ending_of (Err (refusals.Delivery u))) source (opening_bytes new.standing.threads new.standing.sessions) []
-  unbegun_stops answered (unanswered.Redo fault) h b = absurd b
-  unbegun_stops answered unanswered.NotBuilt h b = inl (record { threads = new.standing.threads; sessions = new.standing.sessions; header = h.header; read = refl; none = refl; asks = b })
-  unbegun_stops answered unanswered.Memory h b =
-      let earlier : List ℕ = read_bytes new.standing.threads new.standing.sessions [] in
-      inl (subst (λ (t : List ℕ). HasRunFront meaning t []) (append-nil earlier ∙ append-nil (opening_bytes new.standing.threads new.standing.sessions))
-      (run_front meaning new.standing.threads new.standing.sessions [] [] (h.header, tt) (nothing new.standing.threads new.standing.sessions) [] (delivery_none (start new.standing.threads new.standing.sessions) earlier)))
-
   -- no standby began
-  pub stop_begin : {S : Type 0} (answered : S → Meaning) (threads sessions : ℕ) (u : Unanswered) → HasRead source to new → threads ≡ new.standing.threads → sessions ≡ new.standing.sessions
-      → Begins answered unbuilt threads sessions (Err u) → RunStops meaning unbuilt source to sink sink new.taken 0 (ending_of (Err (refusals.Delivery u)))
-  stop_begin answered threads sessions u h t s b = record {
-    bytes = opening_bytes new.standing.threads new.standing.sessions;
-    output = [];
-    took = h.took;
-    wrote = appends_none sink;
-    written_count = refl;
-    stops = unbegun_stops answered u h (subst (λ (n : ℕ). Begins answered unbuilt new.standing.threads n (Err u)) s (subst (λ (n : ℕ). Begins answered unbuilt n sessions (Err u)) t b));
-  }
+  pub stop_begin : HasRead source to new → RunStops meaning source to sink sink new.taken 0 (ending_of (Err (refusals.Delivery unanswered.Memory)))
+  stop_begin h =
+      let earlier : List ℕ = read_bytes new.standing.threads new.standing.sessions [] in
+      record {
+        bytes = opening_bytes new.standing.threads new.standing.sessions;
+        output = [];
+        took = h.took;
+        wrote = appends_none sink;
+        written_count = refl;
+        stops = inl (subst (λ (t : List ℕ). HasRunFront meaning t []) (append-nil earlier ∙ append-nil (opening_bytes new.standing.threads new.standing.sessions))
+            (run_front meaning new.standing.threads new.standing.sessions [] [] (h.header, tt) (nothing new.standing.threads new.standing.sessions) [] (delivery_none (start new.standing.threads new.standing.sessions) earlier)));
+      }
 
 -- before the first delivery nothing is written
-pub nothing_of : {S : Type 0} (answered : S → Meaning) (threads sessions : ℕ) → SomeAnswered answered threads sessions [] []
-nothing_of answered threads sessions = inl (refl, refl)
+pub nothing_of : {S T : Type 0} (answered : S → T → Meaning) (setup : T) (threads sessions : ℕ) → SomeAnswered answered setup threads sessions [] []
+nothing_of answered setup threads sessions = inl (refl, refl)
+
+-- A delivery that was read where the run stands may be answered.
+module _ {T : Type 0} (answered : T → Meaning) (setup : T) (source from sink held : Option (List ℕ)) (old : FeedState) (written : ℕ) (at : IsAt (answered setup) source from sink held old written) (to : Option (List ℕ)) (new : FeedState) (d : RawDelivery) (r : ReadDelivery old new from to d) where
+  abbrev pub is_next : IsNext answered d
+  is_next =
+      let one = one_read (answered setup) source from sink held old written at to new d r in
+      record {
+        setup = setup;
+        threads = at.threads;
+        sessions = at.sessions;
+        before = at.deliveries;
+        items = one.items;
+        written = at.output;
+        has = at.ran;
+        feed = one.feed;
+        brings = one.brings;
+      }

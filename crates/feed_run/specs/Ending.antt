@@ -1,5 +1,4 @@
--- How the run of a feed ends: what was taken and written until then, over what the lines of the deliveries mean
--- and what is not built.
+-- How the run of a feed ends: what was taken and written until then, over what the lines of the deliveries mean.
 use Rattle.std.specs.Prelude.{◌≡◌, ◌≢◌, ℕ, List, [], ◌∷◌, ◌++◌, length, Option, IfSome, ◌⊎◌}
 use Rattle.std.specs.Ffi.{without_last}
 use Rattle.adg_model.specs.declared.delivery.RawDelivery.{RawDelivery}
@@ -8,8 +7,8 @@ use Rattle.adg_model.specs.declared.fault.FeedKind.TheVariants as kinds
 use Rattle.adg_model.specs.declared.fault.RedoFault.{RedoFault}
 use Rattle.adg_model.specs.Feed.{Item, IsHeader, IsFeed, FeedFails, opening_bytes, deliveries_bytes, feed_bytes}
 use Rattle.adg_model.specs.Sound.{IsRedoFault}
-use Rattle.feed_run.specs.Report.{feed_line, redo_line, not_built_line, usage_line}
-use Rattle.feed_run.specs.Standby.{Meaning, Unbuilt, deliveries_of}
+use Rattle.feed_run.specs.Report.{feed_line, redo_line, usage_line}
+use Rattle.feed_run.specs.Standby.{Meaning, deliveries_of}
 
 -- how a run ends
 pub data Ending : Type 0 where
@@ -20,7 +19,6 @@ pub data Ending : Type 0 where
   SourceFailed : Ending
   SinkFailed : Ending
   NoMemory : Ending
-  NotBuilt : Ending
 
 abbrev pub status_of : Ending → ℕ
 status_of FeedRead = 0
@@ -30,7 +28,6 @@ status_of (RedoRefused fault) = 3
 status_of SourceFailed = 4
 status_of SinkFailed = 5
 status_of NoMemory = 6
-status_of NotBuilt = 7
 
 -- the line that says so, where there is one
 abbrev pub line_of : Ending → List ℕ
@@ -41,7 +38,6 @@ line_of (RedoRefused fault) = redo_line fault
 line_of SourceFailed = []
 line_of SinkFailed = []
 line_of NoMemory = []
-line_of NotBuilt = not_built_line
 
 -- the opening of a feed and some of its deliveries
 abbrev pub read_bytes : (threads sessions : ℕ) → List (List Item) → List ℕ
@@ -91,20 +87,6 @@ pub record HasRedoFault (meaning : Meaning) (fault : RedoFault) (taken written :
   pub one : HasOneMore meaning taken written
   pub bad : IsRedoFault one.threads (all_of one) fault
 
--- the header asks for what is not built, and nothing was read after it
-pub record HasUnbuiltHeader (unbuilt : Unbuilt) (taken written : List ℕ) : Type 0 where
-  pub threads : ℕ
-  pub sessions : ℕ
-  pub header : IsHeader threads sessions
-  pub read : taken ≡ opening_bytes threads sessions
-  pub none : written ≡ []
-  pub asks : unbuilt threads []
-
--- with the last delivery they ask for what is not built
-pub record HasUnbuilt (meaning : Meaning) (unbuilt : Unbuilt) (taken written : List ℕ) : Type 0 where
-  pub one : HasOneMore meaning taken written
-  pub asks : unbuilt one.threads (all_of one)
-
 -- nothing is wrong with these bytes but that they end, and the deliveries that are whole in them were answered
 pub record HasRunFront (meaning : Meaning) (bytes written : List ℕ) : Type 0 where
   pub threads : ℕ
@@ -125,53 +107,51 @@ pub record IsCutTranscript (meaning : Meaning) (taken written : List ℕ) : Type
 
 -- How the run of a feed stops, before a line is written that says so. Where memory was wanting, a delivery
 -- that the last byte taken ended may not have been answered.
-abbrev pub Stops : Meaning → Unbuilt → Ending → Option (List ℕ) → (taken written : List ℕ) → Type 0
-Stops meaning unbuilt FeedRead source taken written = HasEnded meaning taken written
-Stops meaning unbuilt WordsRefused source taken written = ⊥
-Stops meaning unbuilt (FeedRefused kind byte) source taken written = HasFeedFault meaning source kind byte taken written
-Stops meaning unbuilt (RedoRefused fault) source taken written = HasRedoFault meaning fault taken written
-Stops meaning unbuilt SourceFailed source taken written = HasRunFront meaning taken written
-Stops meaning unbuilt SinkFailed source taken written = IsCutTranscript meaning taken written
-Stops meaning unbuilt NoMemory source taken written = HasRunFront meaning taken written ⊎ HasRunFront meaning (without_last taken) written
-Stops meaning unbuilt NotBuilt source taken written = HasUnbuiltHeader unbuilt taken written ⊎ HasUnbuilt meaning unbuilt taken written
+abbrev pub Stops : Meaning → Ending → Option (List ℕ) → (taken written : List ℕ) → Type 0
+Stops meaning FeedRead source taken written = HasEnded meaning taken written
+Stops meaning WordsRefused source taken written = ⊥
+Stops meaning (FeedRefused kind byte) source taken written = HasFeedFault meaning source kind byte taken written
+Stops meaning (RedoRefused fault) source taken written = HasRedoFault meaning fault taken written
+Stops meaning SourceFailed source taken written = HasRunFront meaning taken written
+Stops meaning SinkFailed source taken written = IsCutTranscript meaning taken written
+Stops meaning NoMemory source taken written = HasRunFront meaning taken written ⊎ HasRunFront meaning (without_last taken) written
 
 -- the run of a feed stopped, and then the line of its ending was written
-pub record StopsWithLine (meaning : Meaning) (unbuilt : Unbuilt) (ending : Ending) (source : Option (List ℕ)) (taken written : List ℕ) : Type 0 where
+pub record StopsWithLine (meaning : Meaning) (ending : Ending) (source : Option (List ℕ)) (taken written : List ℕ) : Type 0 where
   pub before : List ℕ
-  pub stops : Stops meaning unbuilt ending source taken before
+  pub stops : Stops meaning ending source taken before
   pub then_line : written ≡ before ++ line_of ending
 
 -- the endings of the run of a feed that a line tells
 abbrev pub HasLine : Ending → Type 0
 HasLine (FeedRefused kind byte) = Unit {0}
 HasLine (RedoRefused fault) = Unit {0}
-HasLine NotBuilt = Unit {0}
 HasLine _ = ⊥
 
 -- the same, but of the line only a front was written
-pub record StopsInLine (meaning : Meaning) (unbuilt : Unbuilt) (source : Option (List ℕ)) (taken written : List ℕ) : Type 0 where
+pub record StopsInLine (meaning : Meaning) (source : Option (List ℕ)) (taken written : List ℕ) : Type 0 where
   pub ending : Ending
   pub told : HasLine ending
   pub before : List ℕ
   pub front : List ℕ
   pub cut : List ℕ
-  pub stops : Stops meaning unbuilt ending source taken before
+  pub stops : Stops meaning ending source taken before
   pub line : front ++ cut ≡ line_of ending
   pub some : cut ≢ []
   pub written_is : written ≡ before ++ front
 
 -- the same, but there was no memory for the line
-pub record StopsBeforeLine (meaning : Meaning) (unbuilt : Unbuilt) (source : Option (List ℕ)) (taken written : List ℕ) : Type 0 where
+pub record StopsBeforeLine (meaning : Meaning) (source : Option (List ℕ)) (taken written : List ℕ) : Type 0 where
   pub ending : Ending
   pub told : HasLine ending
-  pub stops : Stops meaning unbuilt ending source taken written
+  pub stops : Stops meaning ending source taken written
 
 -- how the run of a feed ends, with the line that says so
-abbrev pub RunEnds : Meaning → Unbuilt → Option (List ℕ) → Ending → (taken written : List ℕ) → Type 0
-RunEnds meaning unbuilt source WordsRefused taken written = ⊥
-RunEnds meaning unbuilt source SinkFailed taken written = IsCutTranscript meaning taken written ⊎ StopsInLine meaning unbuilt source taken written
-RunEnds meaning unbuilt source NoMemory taken written = Stops meaning unbuilt NoMemory source taken written ⊎ StopsBeforeLine meaning unbuilt source taken written
-RunEnds meaning unbuilt source ending taken written = StopsWithLine meaning unbuilt ending source taken written
+abbrev pub RunEnds : Meaning → Option (List ℕ) → Ending → (taken written : List ℕ) → Type 0
+RunEnds meaning source WordsRefused taken written = ⊥
+RunEnds meaning source SinkFailed taken written = IsCutTranscript meaning taken written ⊎ StopsInLine meaning source taken written
+RunEnds meaning source NoMemory taken written = Stops meaning NoMemory source taken written ⊎ StopsBeforeLine meaning source taken written
+RunEnds meaning source ending taken written = StopsWithLine meaning ending source taken written
 
 -- nothing was read, and the usage line was written, or a front of it
 pub record IsUsage (taken written cut : List ℕ) : Type 0 where

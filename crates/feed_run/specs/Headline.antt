@@ -5,7 +5,7 @@ use Rattle.adg_io.specs.Faults.{Rose}
 use Rattle.adg_model.specs.declared.fault.RedoFault.{RedoFault}
 use Rattle.adg_model.specs.Feed.{Item, BeginsFeed}
 use Rattle.adg_model.specs.Sound.{IsRedoFault}
-use Rattle.feed_run.specs.Ending.{Ending, FeedRead, SourceFailed, SinkFailed, NoMemory, NotBuilt, status_of}
+use Rattle.feed_run.specs.Ending.{Ending, FeedRead, SourceFailed, SinkFailed, NoMemory, status_of}
 use Rattle.feed_run.specs.Standby.{deliveries_of}
 use Rattle.feed_run.specs.View.{SourceView, SinkView}
 use Rattle.feed_run.specs.declared.outcome.Outcome.{Outcome}
@@ -49,10 +49,9 @@ pub record IsGoodFeed (bytes : List ℕ) : Type 0 where
   pub begins : BeginsFeed bytes threads sessions deliveries unread
   pub no_fault : (before more : List (List Item)) (fault : RedoFault) → deliveries ≡ before ++ more → IsRedoFault threads (deliveries_of before) fault → ⊥
 
--- Over such bytes, where neither count of faults rose and nothing was asked that is not built, the feed is read to
--- its end, or memory was wanting.
+-- Over such bytes, where neither count of faults rose, the feed is read to its end, or memory was wanting.
 abbrev pub IsComplete : (source source_now : SourceView) (sink sink_now : SinkView) → Outcome → Type 0
 IsComplete source source_now sink sink_now outcome =
     (bytes : List ℕ) → source.left ≡ Some bytes → IsGoodFeed bytes
-    → (Rose source.faults source_now.faults → ⊥) → (Rose sink.faults sink_now.faults → ⊥) → outcome.status ≢ status_of NotBuilt
+    → (Rose source.faults source_now.faults → ⊥) → (Rose sink.faults sink_now.faults → ⊥)
     → (outcome.status ≡ status_of FeedRead) ⊎ (outcome.status ≡ status_of NoMemory)

@@ -8,9 +8,9 @@ use Rattle.adg_model.specs.Feed.{Item, IsFeed, start, after_deliveries}
 use Rattle.feed_frames.specs.State.{FeedState}
 use Rattle.feed_frames.specs.declared.phase.Phase.TheVariants.{Open}
 use Rattle.feed_frames.specs.Intake.{Took}
-use Rattle.feed_run.specs.Ending.{Ending, HasLine, line_of, status_of, FeedRead, FeedRefused, RedoRefused, SourceFailed, SinkFailed, NoMemory, NotBuilt, Stops, read_bytes}
+use Rattle.feed_run.specs.Ending.{Ending, HasLine, line_of, status_of, FeedRead, FeedRefused, RedoRefused, SourceFailed, SinkFailed, NoMemory, Stops, read_bytes}
 use Rattle.feed_run.specs.Headline.{counted}
-use Rattle.feed_run.specs.Standby.{Meaning, Unbuilt, deliveries_of}
+use Rattle.feed_run.specs.Standby.{Meaning, deliveries_of}
 use Rattle.feed_run.specs.View.{SinkView}
 use Rattle.feed_run.specs.declared.refusal.Refusal.{Refusal}
 use Rattle.feed_run.specs.declared.refusal.Refusal.TheVariants as refusals
@@ -40,18 +40,17 @@ abbrev pub ending_of : Result (Unit {0}) Refusal → Ending
 ending_of (Ok done) = FeedRead
 ending_of (Err (refusals.Feed fault)) = feed_ending fault.kind fault.byte
 ending_of (Err (refusals.Delivery (unanswered.Redo fault))) = RedoRefused fault
-ending_of (Err (refusals.Delivery unanswered.NotBuilt)) = NotBuilt
 ending_of (Err (refusals.Delivery unanswered.Memory)) = NoMemory
 ending_of (Err refusals.Write) = SinkFailed
 
 -- the run of a feed stopped with a result: what it took and wrote until then
-pub record RunStops (meaning : Meaning) (unbuilt : Unbuilt) (source from sink held : Option (List ℕ)) (taken written : ℕ) (ending : Ending) : Type 0 where
+pub record RunStops (meaning : Meaning) (source from sink held : Option (List ℕ)) (taken written : ℕ) (ending : Ending) : Type 0 where
   pub bytes : List ℕ
   pub output : List ℕ
   pub took : Took source from 0 taken bytes
   pub wrote : Appends sink held output
   pub written_count : written ≡ counted output
-  pub stops : Stops meaning unbuilt ending source bytes output
+  pub stops : Stops meaning ending source bytes output
 
 -- a piece was written, or a front of it where the sink failed
 pub record WroteFront (sink sink_now : SinkView) (before after : ℕ) (piece : List ℕ) : Type 0 where

@@ -59,9 +59,6 @@ redo_tail (Unsound index kind) = codes " vector " ++ decimal index ++ codes " " 
 abbrev pub redo_line : RedoFault → List ℕ
 redo_line fault = redo_head fault.thread fault.number ++ redo_tail fault.kind
 
-abbrev pub not_built_line : List ℕ
-not_built_line = codes "not built yet" ++ newline
-
 -- the line that is written where the words are no accepted line
 abbrev pub usage_line : List ℕ
 usage_line = codes "usage: imadg step|run|soak|audit [--workers N] [--seed N] [--txns N]" ++ newline

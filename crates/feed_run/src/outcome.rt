@@ -27,8 +27,6 @@ pub enum Status {
     SinkFailed,
     /// Want of memory.
     NoMemory,
-    /// The feed asks for what is not built yet.
-    NotBuilt,
 }
 
 impl Status {
@@ -44,7 +42,6 @@ impl Status {
             Status::SourceFailed => 4,
             Status::SinkFailed => 5,
             Status::NoMemory => 6,
-            Status::NotBuilt => 7,
         }
     }
 }

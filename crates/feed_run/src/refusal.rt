@@ -1,4 +1,5 @@
 use crate::standby::Unanswered;
+use adg_base::memory::Memory;
 use feed_frames::fault::FeedFault;
 use thiserror::Error;
 
@@ -24,5 +25,17 @@ impl From<Unanswered> for Refusal {
 
     fn from(unanswered: Unanswered) -> Refusal {
         Refusal::Delivery(unanswered)
+    }
+}
+
+impl From<Memory> for Refusal {
+    ghost use Rattle.std.specs.Prelude.{◌≡◌};
+    ghost use Rattle.feed_run.specs.declared.refusal.Refusal.TheVariants as refusals;
+    ghost use Rattle.feed_run.specs.declared.standby.Unanswered.TheVariants as unanswered;
+
+    ghost from_gives = { λ _ e. e ≡ refusals.Delivery unanswered.Memory };
+
+    fn from(_error: Memory) -> Refusal {
+        Refusal::Delivery(Unanswered::Memory)
     }
 }

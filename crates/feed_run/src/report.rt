@@ -1,5 +1,5 @@
 ghost use Rattle.std.specs.Prelude.{◌≡◌, ◌++◌, IfOk, OnOk, string_bytes};
-ghost use Rattle.feed_run.specs.Report.{feed_name, frame_name, check_name, feed_line, redo_line, redo_tail, not_built_line, usage_line};
+ghost use Rattle.feed_run.specs.Report.{feed_name, frame_name, check_name, feed_line, redo_line, redo_tail, usage_line};
 
 use adg_base::memory::Memory;
 use adg_model::fault::{CheckKind, FeedKind, FrameKind, RedoFault, RedoKind};
@@ -85,13 +85,6 @@ pub fn redo_refused(alloc: Global, fault: RedoFault) -> Result<String, Memory>
     let mut line = format!(in alloc; "redo refused: thread {thread} record {number}")?;
     push_redo_kind(&mut line, fault.kind)?;
     Ok(line)
-}
-
-/// The line of a feed that asks for what is not built yet.
-pub fn not_built() -> &'static str
-    ensures { result.now ≡ not_built_line }
-{
-    "not built yet\n"
 }
 
 /// The line of words that are not accepted.

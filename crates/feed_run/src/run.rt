@@ -27,7 +27,7 @@ fn answer_deliveries<S: Standby, R: Source, K: Sink>(
 ) -> Result<(), Refusal>
     requires fresh { reader.old ≡ fresh }
     requires none { written.old ≡ 0 }
-    ensures stops { RunStops (SomeAnswered S.answered) S.unbuilt (R.left source.old) (R.left source.new) (K.held sink.old) (K.held sink.new) reader.new.taken written.new (ending_of result) }
+    ensures stops { RunStops (SomeAnswered S.answered setup) (R.left source.old) (R.left source.new) (K.held sink.old) (K.held sink.new) reader.new.taken written.new (ending_of result) }
     ensures causes { HasCauses (ending_of result) (source_view (R.left source.old) (R.faults source.old)) (source_view (R.left source.new) (R.faults source.new)) (sink_view (K.held sink.old) (K.faults sink.old)) (sink_view (K.held sink.new) (K.faults sink.new)) }
 {
     if let Err(fault) = reader.read_header(source) {
@@ -53,7 +53,7 @@ pub fn run_feed<S: Standby, R: Source, K: Sink>(
     source: &mut R,
     sink: &mut K,
 ) -> Outcome
-    ensures headline { Headline (RunEnds (SomeAnswered S.answered) S.unbuilt (R.left source.old)) (source_view (R.left source.old) (R.faults source.old)) (source_view (R.left source.new) (R.faults source.new)) (sink_view (K.held sink.old) (K.faults sink.old)) (sink_view (K.held sink.new) (K.faults sink.new)) result }
+    ensures headline { Headline (RunEnds (SomeAnswered S.answered setup) (R.left source.old)) (source_view (R.left source.old) (R.faults source.old)) (source_view (R.left source.new) (R.faults source.new)) (sink_view (K.held sink.old) (K.faults sink.old)) (sink_view (K.held sink.new) (K.faults sink.new)) result }
     ensures complete { IsComplete (source_view (R.left source.old) (R.faults source.old)) (source_view (R.left source.new) (R.faults source.new)) (sink_view (K.held sink.old) (K.faults sink.old)) (sink_view (K.held sink.new) (K.faults sink.new)) result }
 {
     let mut written: u64 = 0;

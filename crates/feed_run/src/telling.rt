@@ -5,7 +5,7 @@ ghost use Rattle.feed_run.specs.View.{sink_view};
 
 use crate::outcome::Status;
 use crate::refusal::Refusal;
-use crate::report::{feed_refused, not_built, redo_refused};
+use crate::report::{feed_refused, redo_refused};
 use crate::standby::Unanswered;
 use adg_io::outside::Sink;
 use adg_io::transfer::write_whole;
@@ -73,9 +73,6 @@ pub fn conclude<K: Sink>(
         Ok(()) => Status::FeedRead,
         Err(Refusal::Feed(fault)) => refuse_feed(alloc, sink, written, fault),
         Err(Refusal::Delivery(Unanswered::Redo(fault))) => refuse_redo(alloc, sink, written, fault),
-        Err(Refusal::Delivery(Unanswered::NotBuilt)) => {
-            tell(sink, written, not_built(), Status::NotBuilt)
-        }
         Err(Refusal::Delivery(Unanswered::Memory)) => Status::NoMemory,
         Err(Refusal::Write) => Status::SinkFailed,
     }

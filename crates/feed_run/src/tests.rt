@@ -4,6 +4,7 @@ use crate::run::{refuse_words, run_feed};
 use crate::standby::{Standby, Unanswered};
 use crate::telling::conclude;
 use adg_base::list::Bytes;
+use adg_base::memory::Memory;
 use adg_io::memory_sink::MemSink;
 use adg_io::memory_source::MemSource;
 use adg_model::delivery::RawDelivery;
@@ -11,8 +12,8 @@ use adg_model::fault::{CheckKind, FrameKind, RedoFault, RedoKind};
 use std::alloc::Global;
 use std::test::Fail;
 
-/// A standby that answers each delivery with the words that it was given. It is not built for seven
-/// threads and for schedule bytes, and wants memory for eight threads.
+/// A standby that answers each delivery with the words that it was given. It wants memory for eight
+/// threads, and for a delivery with schedule bytes.
 #[derive(Drop)]
 struct Parrot<'a> {
     words: &'a [u8],
@@ -21,26 +22,23 @@ struct Parrot<'a> {
 impl<'a> Standby for Parrot<'a> {
     type Setup = &'a [u8];
 
-    ghost answered = { λ parrot threads sessions deliveries written. Unit {0} };
-
-    ghost unbuilt = { λ threads deliveries. Unit {0} };
+    ghost answered = { λ parrot words threads sessions deliveries written. Unit {0} };
 
     fn begin(
         _alloc: Global,
         words: &'a [u8],
         threads: u8,
         _sessions: u8,
-    ) -> Result<Parrot<'a>, Unanswered> {
+    ) -> Result<Parrot<'a>, Memory> {
         match threads {
-            7 => Err(Unanswered::NotBuilt),
-            8 => Err(Unanswered::Memory),
+            8 => Err(Memory),
             _ => Ok(Parrot { words }),
         }
     }
 
     fn deliver(&mut self, alloc: Global, delivery: RawDelivery) -> Result<Bytes, Unanswered> {
         if delivery.schedule.len() > 0 {
-            return Err(Unanswered::NotBuilt);
+            return Err(Unanswered::Memory);
         }
         match Vec::from_slice(alloc, self.words) {
             Ok(lines) => Ok(Bytes::from_vec(lines)),
@@ -58,10 +56,9 @@ const TWO: &[u8] = b"IMADG01\nH\0\0\0\x02\x02\x03E\0\0\0\0E\0\0\0\0X\0\0\0\0more
 
 #[test]
 fn ends_in_each_way(rt: HostRuntime) -> Result<(), Fail> {
-    let seven = b"IMADG01\nH\0\0\0\x02\x07\x01E\0\0\0\0";
     let eight = b"IMADG01\nH\0\0\0\x02\x08\x01E\0\0\0\0";
     let schedule = b"IMADG01\nH\0\0\0\x02\x01\x01E\0\0\0\0S\0\0\0\x01xE\0\0\0\0";
-    let rows: [(&str, &[u8], u64, u64, u8, u64, &str); 9] = [
+    let rows: [(&str, &[u8], u64, u64, u8, u64, &str); 8] = [
         ("read", TWO, 0, 0, 0, 30, "Polly\nPolly\n"),
         (
             "the tag",
@@ -83,25 +80,16 @@ fn ends_in_each_way(rt: HostRuntime) -> Result<(), Fail> {
         ),
         ("a read fails", TWO, 1, 0, 4, 0, ""),
         ("a write fails", TWO, 0, 2, 5, 25, "Polly\n"),
+        ("the line fails", &TWO[..20], 0, 2, 5, 20, "Polly\n"),
+        ("no memory", eight.as_slice(), 0, 0, 6, 15, ""),
         (
-            "the line fails",
+            "no memory for a delivery",
             schedule.as_slice(),
             0,
-            2,
-            5,
+            0,
+            6,
             31,
             "Polly\n",
-        ),
-        ("no memory", eight.as_slice(), 0, 0, 6, 15, ""),
-        ("a header", seven.as_slice(), 0, 0, 7, 15, "not built yet\n"),
-        (
-            "a delivery",
-            schedule.as_slice(),
-            0,
-            0,
-            7,
-            31,
-            "Polly\nnot built yet\n",
         ),
     ];
     for (name, feed, failing_read, failing_write, status, taken, written) in rows {

@@ -1,5 +1,5 @@
 -- What a run of the program promises.
-use Rattle.std.specs.Prelude.{ℕ, if◌then◌else◌, List, [], ◌∷◌, Option, Some, None, codes}
+use Rattle.std.specs.Prelude.{◌≡◌, ℕ, if◌then◌else◌, List, [], ◌∷◌, Option, Some, None, codes}
 use Rattle.std.specs.Str.{bytes_eq}
 use Rattle.std.specs.Io.KnownBytes.{Appends, Consumes, IsAtEnd, Keeps}
 use Rattle.feed_text.specs.declared.reason.Reason.{Reason}
@@ -8,7 +8,8 @@ use Rattle.feed_text.specs.declared.top.Turn.{Turn}
 use Rattle.feed_text.specs.declared.top.Turn.TheVariants.{Assemble, Show}
 use Rattle.feed_text.specs.declared.top.Ended.{Ended}
 use Rattle.feed_text.specs.declared.top.Ended.TheVariants.{Done, Refused, SourceFailed, SinkFailed, NoMemory}
-use Rattle.feed_text.specs.Meaning.{Assembles}
+use Rattle.feed_text.specs.LineReading.{split}
+use Rattle.feed_text.specs.Meaning.{Assembles, BreaksAt}
 
 -- what one word asks for
 abbrev pub turn_of_word : List ℕ → Option Turn
@@ -46,10 +47,21 @@ pub record Wrote (turn : Turn) (input : List ℕ) (held held_now : Option (List 
   pub turned : Turned turn input output
   pub written : Appends held held_now output
 
+-- a text breaks the notation, and this is the first line that does
+pub record IsBroken (text : List ℕ) : Type 0 where
+  pub number : ℕ
+  pub reason : Reason
+  pub breaks : BreaksAt 1 (split 10 text) number reason
+
+-- an input that is refused: a text that breaks the notation; a feed never is, whatever its bytes are
+abbrev pub IsRefused : Turn → (input : List ℕ) → Type 0
+IsRefused Assemble text = IsBroken text
+IsRefused Show feed = ⊥
+
 -- how the turning of an input ends: all was written; or nothing was; or a write failed
 abbrev pub TurnEnds : Turn → (input : List ℕ) → (held held_now : Option (List ℕ)) → Ended → Type 0
 TurnEnds turn input held held_now Done = Wrote turn input held held_now
-TurnEnds turn input held held_now Refused = Keeps held held_now
+TurnEnds turn input held held_now Refused = IsRefused turn input × Keeps held held_now
 TurnEnds turn input held held_now NoMemory = Keeps held held_now
 TurnEnds turn input held held_now SourceFailed = ⊥
 TurnEnds turn input held held_now SinkFailed = Unit {0}
@@ -61,15 +73,25 @@ pub record ReadAndWrote (turn : Turn) (left left_now held held_now : Option (Lis
   pub at_end : IsAtEnd left_now
   pub wrote : Wrote turn input held held_now
 
+-- the source was read to its end, and what it had was refused
+pub record ReadAndRefused (turn : Turn) (left left_now held held_now : Option (List ℕ)) : Type 0 where
+  pub input : List ℕ
+  pub read : Consumes left left_now input
+  pub at_end : IsAtEnd left_now
+  pub refused : IsRefused turn input
+  pub kept : Keeps held held_now
+
 -- how a run ends: status 0 only where all was done, and nothing is written where it was not, but for a
--- write that failed
+-- write that failed; words that are no accepted line are refused, and nothing is read
 abbrev pub RunEnds : Option Turn → (left left_now held held_now : Option (List ℕ)) → Ended → Type 0
 RunEnds (Some turn) left left_now held held_now Done = ReadAndWrote turn left left_now held held_now
-RunEnds None left left_now held held_now Done = ⊥
-RunEnds turn left left_now held held_now Refused = Keeps held held_now
-RunEnds turn left left_now held held_now SourceFailed = Keeps held held_now
-RunEnds turn left left_now held held_now NoMemory = Keeps held held_now
-RunEnds turn left left_now held held_now SinkFailed = Unit {0}
+RunEnds (Some turn) left left_now held held_now Refused = ReadAndRefused turn left left_now held held_now
+RunEnds (Some turn) left left_now held held_now SourceFailed = Keeps held held_now
+RunEnds (Some turn) left left_now held held_now SinkFailed = Unit {0}
+RunEnds (Some turn) left left_now held held_now NoMemory = Keeps held held_now
+RunEnds None left left_now held held_now Refused = (left_now ≡ left) × Keeps held held_now
+RunEnds None left left_now held held_now SinkFailed = Unit {0}
+RunEnds None left left_now held held_now _ = ⊥
 
 -- the endings of a run that writes a line which tells why nothing was turned
 abbrev pub IsTold : Ended → Type 0

@@ -4,12 +4,12 @@ use Rattle.feed_run.specs.declared.outcome.Outcome.{Outcome}
 use Rattle.feed_run.specs.Ending.{Ending, RunEnds, UsageEnds}
 use Rattle.feed_run.specs.Headline as run
 use Rattle.feed_run.specs.View.{SourceView, SinkView}
-use Rattle.frontier_standby.specs.Ran.{RanAll, IsUnbuilt}
+use Rattle.core_standby.specs.Ran.{RanAll}
 use Rattle.imadg_top.specs.Words.{workers_of}
 
--- how a run ends over its words: where they are accepted its feed is run
+-- how a run ends over its words: where they are accepted its feed is run, with the workers that they name
 abbrev pub Ends : Option ℕ → Option (List ℕ) → Ending → (taken written : List ℕ) → Type 0
-Ends (Some workers) source = RunEnds RanAll IsUnbuilt source
+Ends (Some workers) source = RunEnds (RanAll workers) source
 Ends None source = UsageEnds
 
 -- The headline: what was taken of the source and written to the sink, the two counts, how the run ended and
@@ -18,6 +18,6 @@ abbrev pub Headline : (words : List (List ℕ)) (source source_now : SourceView)
 Headline words source source_now sink sink_now outcome = run.Headline (Ends (workers_of words) source.left) source source_now sink sink_now outcome
 
 -- With accepted words, over bytes that begin with a whole feed whose redo has no fault, and where neither count of
--- faults rose and nothing was asked that is not built, the feed is read to its end, or memory was wanting.
+-- faults rose, the feed is read to its end, or memory was wanting.
 abbrev pub IsComplete : (words : List (List ℕ)) (source source_now : SourceView) (sink sink_now : SinkView) → Outcome → Type 0
 IsComplete words source source_now sink sink_now outcome = workers_of words ≢ None → run.IsComplete source source_now sink sink_now outcome

@@ -1,4 +1,5 @@
 use adg_base::list::Bytes;
+use adg_base::memory::Memory;
 use adg_model::delivery::RawDelivery;
 use feed_run::standby::{Standby, Unanswered};
 use std::alloc::Global;
@@ -19,14 +20,7 @@ impl<S: Standby> Standby for Kept<S> {
 
     ghost answered = { λ k. S.answered (manually_drop_value k.standby) };
 
-    ghost unbuilt = { S.unbuilt };
-
-    fn begin(
-        alloc: Global,
-        setup: S::Setup,
-        threads: u8,
-        sessions: u8,
-    ) -> Result<Kept<S>, Unanswered> {
+    fn begin(alloc: Global, setup: S::Setup, threads: u8, sessions: u8) -> Result<Kept<S>, Memory> {
         let standby = S::begin(alloc, setup, threads, sessions)?;
         Ok(Kept {
             standby: ManuallyDrop::new(standby),

@@ -349,7 +349,7 @@ fn feed_of(alloc: Global, redo: &[u8], commands: u16, text: &str) -> Result<Vec<
 
 #[test]
 fn refuses_one_more_than_the_most(rt: HostRuntime) -> Result<(), Fail> {
-    let rows: [(&str, &[u8], u16, &str, (u8, u64, &str)); 6] = [
+    let rows: [(&str, &[u8], u16, &str, (u8, u64, &str)); 4] = [
         (
             "an end of the thread",
             b"\0\x0e\0\0\0\0\0\0\0\x09\x01\x0b\0\x0e",
@@ -378,14 +378,6 @@ fn refuses_one_more_than_the_most(rt: HostRuntime) -> Result<(), Fail> {
             "",
             (2, 6_165, "feed refused: TooManyCommands at byte 6159\n"),
         ),
-        (
-            "a population",
-            b"",
-            1,
-            "POPULATE t1",
-            (7, 37, "not built yet\n"),
-        ),
-        ("an abort", b"", 1, "ABORT", (7, 31, "not built yet\n")),
     ];
     for (name, redo, commands, text, wanted) in rows {
         let feed = feed_of(rt.alloc(), redo, commands, text)?;
@@ -695,10 +687,12 @@ fn takes_redo_cut_anywhere(rt: HostRuntime) -> Result<(), Fail> {
 #[test]
 fn answers_session_by_session(rt: HostRuntime) -> Result<(), Fail> {
     const ANSWERS: &str =
-        "d1 s1 c1 scn=11 rows=1 col=0 row=1\n= 1\nd1 s2 c1 scn=11 refused NoTable\n\
-d1 s2 c2 scn=11 rows=1 col=0 row=1\n= 1\nd1 end scn=11\n";
+        "d1 s1 c1 scn=11 synced\nd1 s1 c2 scn=11 rows=1 col=0 row=1\n= 1\nd1 s2 c1 scn=11 synced\n\
+d1 s2 c2 scn=11 refused NoTable\nd1 s2 c3 scn=11 rows=1 col=0 row=1\n= 1\nd1 end scn=11\n";
     let mut feed = damaged(rt.alloc(), FEED.as_slice(), 98, &[(14, 2)])?;
     for command in [
+        "\x02SYNC",
+        "\x01SYNC",
         "\x02SELECT COUNT FROM t2",
         "\x01SELECT COUNT FROM t1",
         "\x02SELECT COUNT FROM t1",
@@ -796,12 +790,11 @@ const ROWS: &[u8] =
 const EACH_SORT: &[u8] =
     b"\0\x1d\0\0\0\0\0\0\0\x0a\x02\x07\0\x01\0\x01\x01\x01\x01\x07\0\x02\0\x01\0\x01\x01\0\x1d\0\x84\0\0\0\0\0\0\0\x0b\x07\x01\0\0\0\0\0\0\0\x07\x02\0\0\0\0\0\0\0\x07\0\x01\0\0\0\x01\x01\0\0\0\0\0\0\0\x01\x02\0\0\0\0\0\0\0\x07\0\x01\0\0\x01\x01\x01\0\0\0\0\0\0\0\x02\x04\0\0\0\0\0\0\0\x07\0\x01\0\0\x01\x02\0\0\0\0\0\0\0\x07\0\x01\0\0\x02\x01\x01\0\0\0\0\0\0\0\x03\x03\0\0\0\0\0\0\0\x07\0\x01\0\0\x02\x05\0\0\0\0\0\0\0\x07\x01\0\x84\0A\0\0\0\0\0\0\0\x0c\x06\x01\0\0\0\0\0\0\0\x08\x02\0\0\0\0\0\0\0\x08\0\x01\0\0\0\x01\x01\0\0\0\0\0\0\0\x09\x06\0\0\0\0\0\0\0\x08\x09\0\x01\x02\x0a\0\x01\x08\0\x02\0A\0\x0e\0\0\0\0\0\0\0\x0d\x01\x0b\0\x0e";
 
-/// A name, redo of thread 1, commands of session 1, the status, and the lines.
+/// A name, redo of thread 1, commands of session 1, and the lines.
 type Run = (
     &'static str,
     &'static [u8],
     &'static [&'static str],
-    u8,
     &'static str,
 );
 
@@ -809,29 +802,25 @@ const RUNS: [Run; 8] = [
     (
         "a group",
         ROWS,
-        &["SELECT COUNT, SUM(c1), MAX(c1) FROM t1 GROUP BY c2"],
-        0,
-        "d1 s1 c1 scn=11 rows=3 col=0 row=5\n= NULL|1|7|7\n= 'a'|2|6|5\n= 'b'|2|2|2\nd1 end scn=11\n",
+        &["SYNC", "SELECT COUNT, SUM(c1), MAX(c1) FROM t1 GROUP BY c2"],
+        "d1 s1 c1 scn=11 synced\nd1 s1 c2 scn=11 rows=3 col=0 row=5\n= NULL|1|7|7\n= 'a'|2|6|5\n= 'b'|2|2|2\nd1 end scn=11\n",
     ),
     (
         "conditions",
         ROWS,
-        &["SELECT * FROM t1 WHERE c1 > 1 AND c2 <> 'b'"],
-        0,
-        "d1 s1 c1 scn=11 rows=1 col=0 row=5\n= 5|'a'\nd1 end scn=11\n",
+        &["SYNC", "SELECT * FROM t1 WHERE c1 > 1 AND c2 <> 'b'"],
+        "d1 s1 c1 scn=11 synced\nd1 s1 c2 scn=11 rows=1 col=0 row=5\n= 5|'a'\nd1 end scn=11\n",
     ),
     (
         "the SCN",
         ROWS,
         &["SYNC", "SHOW SCN", "SYNC"],
-        0,
         "d1 s1 c1 scn=11 synced\nd1 s1 c2 scn=11 shown\nd1 s1 c3 scn=11 synced\nd1 end scn=11\n",
     ),
     (
         "no command among commands",
         ROWS,
         &["SYNC", "", "SELECT COUNT FROM t01", "ABORTS", "SHOW SCN"],
-        0,
         "d1 s1 c1 scn=11 synced\nd1 s1 c2 scn=11 refused BadQuery byte=0\n\
 d1 s1 c3 scn=11 refused BadQuery byte=19\nd1 s1 c4 scn=11 refused BadQuery byte=5\nd1 s1 c5 scn=11 shown\nd1 end scn=11\n",
     ),
@@ -839,34 +828,31 @@ d1 s1 c3 scn=11 refused BadQuery byte=19\nd1 s1 c4 scn=11 refused BadQuery byte=
         "refused queries",
         ROWS,
         &[
+            "SYNC",
             "SELECT * FROM t2",
             "SELECT SUM(c3) FROM t1",
             "SELECT SUM(c2) FROM t1",
         ],
-        0,
-        "d1 s1 c1 scn=11 refused NoTable\nd1 s1 c2 scn=11 refused NoColumn\n\
-d1 s1 c3 scn=11 refused WrongType\nd1 end scn=11\n",
+        "d1 s1 c1 scn=11 synced\nd1 s1 c2 scn=11 refused NoTable\nd1 s1 c3 scn=11 refused NoColumn\n\
+d1 s1 c4 scn=11 refused WrongType\nd1 end scn=11\n",
     ),
     (
         "each sort of vector",
         EACH_SORT,
-        &["SELECT * FROM t1", "SELECT COUNT FROM t2"],
-        0,
-        "d1 s1 c1 scn=13 rows=1 col=0 row=1\n= 1|NULL\nd1 s1 c2 scn=13 refused NoTable\nd1 end scn=13\n",
+        &["SYNC", "SELECT * FROM t1", "SELECT COUNT FROM t2"],
+        "d1 s1 c1 scn=13 synced\nd1 s1 c2 scn=13 rows=1 col=0 row=1\n= 1|NULL\nd1 s1 c3 scn=13 refused NoTable\nd1 end scn=13\n",
     ),
     (
         "a population among commands",
         ROWS,
         &["SYNC", "POPULATE t1", "SYNC"],
-        7,
-        "not built yet\n",
+        "d1 s1 c1 scn=11 synced\nd1 s1 c2 scn=11 populated units=1\nd1 s1 c3 scn=11 synced\nd1 end scn=11\n",
     ),
     (
         "an abort among commands",
         ROWS,
         &["SYNC", "ABORT", "SYNC"],
-        7,
-        "not built yet\n",
+        "d1 s1 c1 scn=11 synced\nd1 s1 c2 scn=11 aborted\nd1 s1 c3 down\nd1 end scn=11\n",
     ),
 ];
 
@@ -893,13 +879,12 @@ fn push_commands(alloc: Global, feed: &mut Vec<u8>, texts: &[&str]) -> Result<()
 
 #[test]
 fn runs_whole_deliveries(rt: HostRuntime) -> Result<(), Fail> {
-    for (name, redo, commands, status, written) in RUNS {
+    for (name, redo, commands, written) in RUNS {
         let mut feed = Vec::from_slice(rt.alloc(), &FEED.as_slice()[..15])?;
         push_redo(rt.alloc(), &mut feed, redo, 100)?;
         push_commands(rt.alloc(), &mut feed, commands)?;
         push_ends(&mut feed)?;
-        let unread = if status == 0 { 0 } else { 5 };
-        let taken = (feed.len() as u64).saturating_sub(unread);
+        let taken = feed.len() as u64;
         assert_runs(
             &rt,
             rt.alloc(),
@@ -907,7 +892,7 @@ fn runs_whole_deliveries(rt: HostRuntime) -> Result<(), Fail> {
             &ONE_WORKER,
             feed.as_slice(),
             CALM,
-            (status, taken, written),
+            (0, taken, written),
         )?;
     }
     Ok(())
@@ -927,7 +912,7 @@ E\0\0\0\0X\0\0\0\0";
 type TwoDamage = (&'static str, &'static [(usize, u8)], u8, u64, &'static str);
 
 const TWO_ANSWERS: &str = "d1 end scn=10\nd2 s1 c1 scn=12 synced\n\
-d2 s2 c1 scn=12 rows=1 col=0 row=2\n= 2\nd2 end scn=12\n";
+d2 s2 c1 scn=10 rows=1 col=0 row=1\n= 1\nd2 end scn=12\n";
 
 const TWO_DAMAGES: [TwoDamage; 13] = [
     ("none", &[], 0, 236, TWO_ANSWERS),
@@ -1055,10 +1040,14 @@ fn runs_eight_threads_and_sessions(rt: HostRuntime) -> Result<(), Fail> {
     }
     for place in 0..8 {
         let session = 8 - place;
+        push_command(rt.alloc(), &mut feed, session, "SYNC")?;
         let text = format!(in rt.alloc(); "SELECT COUNT FROM t{session}")?;
         push_command(rt.alloc(), &mut feed, session, text.as_str())?;
         let session = 1 + place;
-        write!(written, "d1 s{session} c1 scn=10 rows=1 col=0 row=0\n= 0\n")?;
+        write!(
+            written,
+            "d1 s{session} c1 scn=10 synced\nd1 s{session} c2 scn=10 rows=1 col=0 row=0\n= 0\n"
+        )?;
     }
     written.push_str("d1 end scn=10\n")?;
     push_ends(&mut feed)?;

@@ -5,16 +5,16 @@ ghost use Rattle.imadg_top.specs.Headline.{Headline, IsComplete};
 use crate::kept::Kept;
 use crate::words::workers;
 use adg_io::outside::{Gate, Sink, Source};
+use core_standby::{CoreStandby, Workers};
 use feed_run::outcome::Outcome;
 use feed_run::run::{refuse_words, run_feed};
-use frontier_standby::FrontierStandby;
 use std::alloc::Global;
 use std::sync::Wait;
 use std::thread::Threads;
 
-/// Answers the feed of a source to a sink on one thread, which is what the plain run of the words
-/// does. The words are those after the program's name. It is the last thing that a program does: what
-/// the standby holds at the end is not freed.
+/// Answers the feed of a source to a sink on one thread, on which the actors of the core take turns.
+/// The words are those after the program's name; they say how many workers the core has. It is the
+/// last thing that a program does: what the standby holds at the end is not freed.
 pub fn stepped<R: Source, K: Sink>(
     alloc: Global,
     words: &[String],
@@ -25,14 +25,17 @@ pub fn stepped<R: Source, K: Sink>(
     ensures complete { IsComplete (map (λ w. string_bytes w) words.now) (source_view (R.left source.old) (R.faults source.old)) (source_view (R.left source.new) (R.faults source.new)) (sink_view (K.held sink.old) (K.faults sink.old)) (sink_view (K.held sink.new) (K.faults sink.new)) result }
 {
     match workers(words) {
-        Some(workers) => run_feed::<Kept<FrontierStandby>, R, K>(alloc, workers, source, sink),
+        Some(number) => {
+            let workers = Workers::new(number);
+            run_feed::<Kept<CoreStandby>, R, K>(alloc, workers, source, sink)
+        }
         None => refuse_words(sink),
     }
 }
 
 /// The standby: it answers the feed of a source to a sink, as the words say that follow the
-/// program's name. The words name a number of workers; until the workers are built, one thread
-/// does the work of all and no actor passes the gate.
+/// program's name. In the mode `step`, the one that there is, it does what `stepped` does, and no
+/// actor passes the gate.
 pub fn standby<H: Threads + Wait + Sync, R: Source, K: Sink, G: Gate>(
     _rt: &H,
     alloc: Global,

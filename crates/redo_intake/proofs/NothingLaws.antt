@@ -40,6 +40,12 @@ log_silent : (n : ℕ) → merged_log (silent n) ≡ []
 unfolding merged_log
 log_silent n = ap (λ (l : List LogEntry). numbered 0 (in_order (upto (frontier (silent n)) l))) (entries_silent 1 n)
 
+frontier_silent : (n : ℕ) → frontier (silent n) ≡ 0
+unfolding frontier silent
+frontier_silent zero = refl
+frontier_silent (suc zero) = refl
+frontier_silent (suc (suc n)) = omega arith
+
 pub nothing_taken : (m : Merging) (k : Known) (threads : ℕ) → length m.threads ≡ threads → Merges m no_texts [] → m.refused ≡ None → StandsFor k [] → HasTaken (record { merger = m; dictionary = k }) threads []
 nothing_taken m k threads many stands good known = record {
   records = silent threads;
@@ -66,3 +72,8 @@ pub nothing-logged : (t : Taking) (threads : ℕ) (h : HasTaken t threads []) �
 nothing-logged t threads h =
     ap (λ (r : List (List RedoRecord)). merged_log r) (records_are_determined [] h.records (silent threads) (h.all ∙ sym (length_silent threads)) h.received (received_silent 1 threads))
     ∙ log_silent threads
+
+pub nothing-frontier : (t : Taking) (threads : ℕ) (h : HasTaken t threads []) → frontier h.records ≡ 0
+nothing-frontier t threads h =
+    ap (λ (r : List (List RedoRecord)). frontier r) (records_are_determined [] h.records (silent threads) (h.all ∙ sym (length_silent threads)) h.received (received_silent 1 threads))
+    ∙ frontier_silent threads

@@ -1,5 +1,5 @@
 -- A worker applies the next entry of its share.
-use Rattle.std.proofs.Common.{◌≡◌, ℕ, ◌+◌, ◌<◌, ◌≤◌, ◌^◌, max, true, false, List, length, get_or, Option, Some, None, ◌⊎◌, inl, inr, refl, sym, ap, ◌∙◌, subst, arith, true≢false, Vec, Global, is_some}
+use Rattle.std.proofs.Common.{◌≡◌, ℕ, ◌+◌, ◌<◌, ◌≤◌, ◌^◌, max, true, List, length, get_or, Some, None, ◌⊎◌, inl, inr, refl, sym, ap, ◌∙◌, subst, arith, true≢false, Vec, Global}
 use Rattle.std.specs.Prelude.{slice_get, slice_set}
 use Rattle.std.specs.List.{Contains}
 use Rattle.std.specs.List.Sorted.{IsNonDecreasingBy}
@@ -16,7 +16,7 @@ use Rattle.core_rules.specs.declared.event.Event.TheVariants as event
 use Rattle.core_rules.specs.declared.event.CoreAnswer.TheVariants.{NotReady, Moved}
 use Rattle.core_rules.specs.Share.{share, is_shared_by}
 use Rattle.core_rules.specs.State.{CoreState, Worker, Shard, At, share_of}
-use Rattle.core_rules.specs.Applying.{CanApply, Applies}
+use Rattle.core_rules.specs.Applying.{CanApply}
 use Rattle.core_rules.proofs.Lists.{at_within, at_exists, at_contains, contains_at, at_same, filter_order}
 use Rattle.core_rules.proofs.Shares.{share_log, share_own}
 use Rattle.core_rules.proofs.FactsOrder.{positions, rises}

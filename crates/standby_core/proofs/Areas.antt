@@ -1,6 +1,6 @@
 -- Areas that hold the same, by membership and by transaction.
-use Rattle.std.proofs.Common.{◌≡◌, ℕ, Bool, true, false, nat_eq, ◌&&◌, if◌then◌else◌, List, [], ◌∷◌, Option, Some, None, ◌⊎◌, inl, inr, refl, sym, ap, ◌∙◌, subst, arith, true≢false}
-use Rattle.std.specs.List.{Contains}
+use Rattle.std.proofs.Common.{◌≡◌, ℕ, Bool, true, false, nat_eq, ◌&&◌, if◌then◌else◌, List, [], Option, Some, ◌⊎◌, inl, inr, refl, sym, ap, ◌∙◌, subst}
+use Rattle.std.specs.List.{Contains, IsDistinct}
 use Rattle.std.proofs.lemmas.Bool.{eqb-true, eq-eqb, and_parts, and_from}
 use Rattle.adg_base.specs.Address.{Place}
 use Rattle.adg_base.specs.Area.{Held, HoldsPlace, HoldsBegin}
@@ -11,8 +11,16 @@ use Rattle.adg_journal.specs.Places.{with_place}
 use Rattle.adg_journal.proofs.Membership.{place_is_held, begin_is_held, with_place_cases, with_place_keeps, with_place_has}
 use Rattle.core_rules.specs.State.{holds_begin}
 use Rattle.core_rules.specs.Applying.{AreaTakes}
-use Rattle.core_rules.proofs.Lists.{any_contains, any_contains_back, is_true, not_both}
+use Rattle.core_rules.proofs.Lists.{any_contains, any_contains_back}
 use Rattle.standby_core.specs.Held.{SameHeld}
+
+-- an area that holds nothing
+pub no_area : IsArea []
+unfolding IsDistinct
+no_area = record { once = tt; each = λ txn. tt }
+
+pub nothing_held : SameHeld [] []
+nothing_held = record { places = λ t a h. h; places_back = λ t a h. h; begins = λ t h. h; begins_back = λ t h. h }
 
 -- where two areas hold the same by transaction they hold the same by membership
 pub holds_same : (xs ys : List Held) → IsArea xs → IsArea ys → HoldsSame xs ys → SameHeld ys xs

@@ -1,6 +1,6 @@
 -- BeginFlush: the worklinks of what is cut, and why it can't happen.
-use Rattle.std.proofs.Common.{◌≡◌, ℕ, zero, suc, ◌+◌, ◌*◌, ◌<◌, ◌≤◌, Bool, true, false, cond, ◌&&◌, List, [], ◌∷◌, ◌++◌, map, filter, length, Some, None, Vec, Global, ◌⊎◌, inl, inr, refl, sym, ap, ap₂, ◌∙◌, subst, arith, true≢false, IsPermutation}
-use Rattle.std.specs.Prelude.{slice_set, count_by, nat_le, nat_lt}
+use Rattle.std.proofs.Common.{◌≡◌, ℕ, zero, suc, ◌+◌, ◌*◌, ◌<◌, ◌≤◌, Bool, true, false, ◌&&◌, List, [], ◌∷◌, ◌++◌, map, filter, length, Some, None, Vec, Global, inr, refl, sym, ap, ap₂, ◌∙◌, subst, arith, true≢false, IsPermutation}
+use Rattle.std.specs.Prelude.{count_by, nat_le, nat_lt}
 use Rattle.std.specs.List.{AllByRecursion, list_all, flat_map}
 use Rattle.std.proofs.lemmas.Bool.{le-leb, leb-true, lt-ltb, ltb-true, and_parts}
 use Rattle.std.specs.Vec.{with_items}
@@ -8,16 +8,15 @@ use Rattle.std.proofs.lemmas.List.{length-map, with_items_is}
 use Rattle.adg_base.specs.declared.node.Node.{Node}
 use Rattle.adg_base.specs.declared.node.DdlNode.{DdlNode}
 use Rattle.adg_base.specs.declared.node.Item.{Item}
-use Rattle.adg_base.specs.declared.log.LogEntry.{LogEntry}
 use Rattle.worklinks.specs.declared.worklink.Worklink.{Worklink}
 use Rattle.worklinks.specs.Chopped as own
 use Rattle.core_rules.specs.declared.event.Event.TheVariants as event
-use Rattle.core_rules.specs.declared.event.CoreAnswer.TheVariants.{NotReady, Moved}
+use Rattle.core_rules.specs.declared.event.CoreAnswer.TheVariants.{Moved}
 use Rattle.core_rules.specs.State.{CoreState, Worker, Quiesce, Link, At}
 use Rattle.core_rules.specs.State as rules
 use Rattle.core_rules.specs.Parts.{QuiesceIs}
-use Rattle.core_rules.specs.Flush.{CanBeginFlush, BeginsFlush, AreFull, AreChopped, cut_worker, nodes_upto, unclaimed}
-use Rattle.core_rules.proofs.Lists.{at_same, at_within, at_exists, at_map, at_map_back, each_at, each_from, not_both, contains_at}
+use Rattle.core_rules.specs.Flush.{CanBeginFlush, BeginsFlush, AreFull, cut_worker, nodes_upto, unclaimed}
+use Rattle.core_rules.proofs.Lists.{at_same, at_within, at_map_back, each_at, each_from, not_both, contains_at}
 use Rattle.standby_core.specs.declared.link.Stage.TheVariants.{Unclaimed, Claimed}
 use Rattle.standby_core.specs.declared.link.Link.{Link as OwnLink}
 use Rattle.standby_core.specs.declared.flush.Flush.{Flush}

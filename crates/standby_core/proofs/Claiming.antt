@@ -1,16 +1,16 @@
 -- Claim, Done and Publish: what the flush is then, and why such an event can't happen.
 use Rattle.std.proofs.Common.{◌≡◌, ℕ, zero, suc, ◌+◌, ◌<◌, ◌≤◌, Bool, true, false, cond, List, [], ◌∷◌, length, Option, Some, None, ◌⊎◌, inl, inr, refl, sym, ap, ◌∙◌, subst, arith, true≢false}
 use Rattle.std.specs.Prelude.{slice_set, count_by, nat_le, ◌==◌}
-use Rattle.std.specs.List.{AllByRecursion, list_any}
+use Rattle.std.specs.List.{list_any}
 use Rattle.std.proofs.lemmas.Bool.{le-leb, leb-true, eq-eqb, eqb-true, cases_lt}
 use Rattle.std.proofs.lemmas.List.{length-set}
 use Rattle.std.proofs.lemmas.List.Sums.{sum_by-cons, count_by-le-length}
 use Rattle.core_rules.specs.State.{CoreState, Quiesce, Link, Collected, At, is_flushing, is_held_by}
 use Rattle.core_rules.specs.State as rules
-use Rattle.core_rules.specs.Flush.{CanClaim, IsFirstUnclaimed, Claims, CanFinish, Finishes, CanPublish, Publishes}
+use Rattle.core_rules.specs.Flush.{CanClaim, IsFirstUnclaimed, CanFinish, CanPublish}
 use Rattle.core_rules.specs.Parts.{QuiesceIs}
 use Rattle.core_rules.specs.declared.event.Event.TheVariants as event
-use Rattle.core_rules.specs.declared.event.CoreAnswer.TheVariants.{NotReady, Moved}
+use Rattle.core_rules.specs.declared.event.CoreAnswer.TheVariants.{Moved}
 use Rattle.core_rules.proofs.Lists.{at_same, at_within, at_exists, at_contains, contains_at, at_set_cases, at_set_same, at_set_kept, any_contains, any_contains_back, any_none, any_false, not_both, each_at, each_from}
 use Rattle.standby_core.specs.declared.link.Stage.{Stage as OwnStage}
 use Rattle.standby_core.specs.declared.link.Stage.TheVariants.{Unclaimed, Claimed, Finished}

@@ -1,5 +1,5 @@
 -- A worklink collects from the area at its cursor.
-use Rattle.std.proofs.Common.{◌≡◌, ℕ, ◌+◌, ◌*◌, ◌<◌, ◌≤◌, Bool, true, false, List, [], ◌∷◌, ◌++◌, map, filter, length, Option, Some, None, ◌⊎◌, inl, inr, refl, sym, ap, ◌∙◌, subst, arith, Vec, Global}
+use Rattle.std.proofs.Common.{◌≡◌, ℕ, ◌+◌, ◌*◌, ◌<◌, ◌≤◌, true, false, List, ◌++◌, filter, length, Some, None, ◌⊎◌, inl, inr, refl, sym, ap, ◌∙◌, subst, arith, Vec, Global}
 use Rattle.std.specs.Prelude.{slice_get, slice_set}
 use Rattle.std.specs.List.{Contains, AllByRecursion, list_any}
 use Rattle.std.proofs.lemmas.Bool.{or_left}
@@ -8,26 +8,26 @@ use Rattle.std.proofs.Math.Nat.{mul-le-mul_left}
 use Rattle.adg_base.specs.Address.{Place}
 use Rattle.adg_base.specs.Area.{Held, HoldsPlace, HoldsBegin}
 use Rattle.adg_base.specs.declared.node.Item.{Item}
-use Rattle.adg_journal.specs.Area.{held_of, begun_in, places_of, is_begun, IsArea}
+use Rattle.adg_journal.specs.Area.{begun_in, places_of, is_begun, IsArea}
 use Rattle.adg_journal.proofs.Membership.{place_is_held, begin_is_held}
 use Rattle.core_rules.specs.declared.event.Event.TheVariants as event
 use Rattle.core_rules.specs.declared.event.CoreAnswer.TheVariants.{NotReady, Moved}
 use Rattle.core_rules.specs.State.{CoreState, Worker, Collected, Link, At, has_txn, has_change, is_change_of, HasCollected}
 use Rattle.core_rules.specs.State as rules
-use Rattle.core_rules.specs.Flush.{HasLink, CanCollect, Collects, AreaGives, Gains}
+use Rattle.core_rules.specs.Flush.{CanCollect, AreaGives, Gains}
 use Rattle.core_rules.proofs.ExactFlush.{given}
 use Rattle.core_rules.proofs.Lists.{Has, has, contains, at_within, at_exists, has_filter, has_filter_back, has_map, has_map_back, has_append_left, has_append_right, has_append_cases, is_true}
 use Rattle.standby_core.specs.declared.standby.Core.{Core}
 use Rattle.standby_core.specs.declared.worker.Worker.{Worker as OwnWorker}
 use Rattle.standby_core.specs.declared.link.Stage.TheVariants.{Claimed}
 use Rattle.standby_core.specs.declared.link.Link.{Link as OwnLink}
-use Rattle.standby_core.specs.Collecting.{is_let_go_by, GivesOut, Gathers, TakesArea}
+use Rattle.standby_core.specs.Collecting.{is_let_go_by, GivesOut, TakesArea}
 use Rattle.standby_core.specs.Each.{EachAt}
 use Rattle.standby_core.specs.Held.{SameHeld}
 use Rattle.standby_core.specs.Links.{AreFew, HasGathered, IsReadyList, ShowsLink}
 use Rattle.standby_core.specs.Parts.{ShowsWorker}
-use Rattle.standby_core.specs.Shows.{Shows, IsState, HasStepped}
-use Rattle.standby_core.proofs.Cursor.{none_held, is_held, shown_link, own_stage, has_link, only_link, flush_goes_on, flush_stays}
+use Rattle.standby_core.specs.Shows.{IsState, HasStepped}
+use Rattle.standby_core.proofs.Cursor.{none_held, shown_link, own_stage, has_link, only_link, flush_goes_on, flush_stays}
 use Rattle.standby_core.proofs.Each.{each_right, each_set}
 use Rattle.standby_core.proofs.Gathering.{txn_either, gone_held, kept_held, gone_places, kept_places}
 use Rattle.standby_core.proofs.Kept.{with_workers, with_flush}

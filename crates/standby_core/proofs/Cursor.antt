@@ -1,5 +1,5 @@
 -- The worklink that an actor holds is one, and what is shown where its cursor goes on.
-use Rattle.std.proofs.Common.{◌≡◌, ℕ, zero, suc, ◌+◌, ◌<◌, ◌≤◌, Bool, true, false, cond, List, [], ◌∷◌, length, Some, None, ◌⊎◌, inl, inr, refl, sym, ap, ◌∙◌, subst, arith, Vec, Global}
+use Rattle.std.proofs.Common.{◌≡◌, ℕ, zero, suc, ◌+◌, ◌<◌, ◌≤◌, Bool, cond, List, [], ◌∷◌, length, Some, ◌⊎◌, inl, inr, refl, sym, ap, ◌∙◌, subst, arith, Vec, Global}
 use Rattle.std.specs.Prelude.{slice_set, count_by, nat_le}
 use Rattle.std.proofs.lemmas.Bool.{cases_eq}
 use Rattle.std.proofs.lemmas.List.Sums.{sum_by-cons}
@@ -8,14 +8,13 @@ use Rattle.core_rules.specs.State.{CoreState, Collected, Link, Quiesce, At}
 use Rattle.core_rules.specs.State as rules
 use Rattle.core_rules.specs.Flush.{HasLink}
 use Rattle.core_rules.proofs.Lists.{at_same, at_within, at_set_cases, at_set_same, at_set_kept}
-use Rattle.standby_core.specs.declared.link.Stage.{Stage as OwnStage}
-use Rattle.standby_core.specs.declared.link.Stage.TheVariants.{Unclaimed, Claimed, Finished}
+use Rattle.standby_core.specs.declared.link.Stage.TheVariants.{Claimed}
 use Rattle.standby_core.specs.declared.link.Link.{Link as OwnLink}
 use Rattle.standby_core.specs.declared.flush.Flush.{Flush}
 use Rattle.standby_core.specs.declared.standby.Core.{Core}
 use Rattle.standby_core.specs.Each.{EachAt}
-use Rattle.standby_core.specs.Links.{stage_with, is_unclaimed, is_finished, ShowsLink, AreNumbers, ShowsFlush, quiesce_shown}
-use Rattle.standby_core.specs.Shows.{Shows, IsState}
+use Rattle.standby_core.specs.Links.{stage_with, is_unclaimed, is_finished, ShowsLink, AreNumbers, ShowsFlush}
+use Rattle.standby_core.specs.Shows.{IsState}
 use Rattle.standby_core.proofs.Each.{each_right, each_set, set_same}
 use Rattle.standby_core.proofs.HeldLinks.{held_number}
 

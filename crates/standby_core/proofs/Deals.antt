@@ -1,19 +1,18 @@
 -- Entries are dealt out to the shares of the workers, and taken back.
-use Rattle.std.proofs.Common.{◌≡◌, ℕ, zero, suc, ◌+◌, ◌<◌, ◌≤◌, ◌%◌, Bool, true, false, cond, List, [], ◌∷◌, ◌++◌, append_assoc, map, take, filter, length, Option, Some, None, ◌⊎◌, inl, inr, refl, sym, ap, ◌∙◌, subst, arith}
-use Rattle.std.specs.Prelude.{slice_get, slice_set, ◌==◌}
+use Rattle.std.proofs.Common.{◌≡◌, ℕ, suc, ◌+◌, ◌<◌, ◌≤◌, ◌%◌, Bool, true, false, cond, List, [], ◌∷◌, ◌++◌, append_assoc, map, take, length, Some, None, ◌⊎◌, inl, inr, refl, sym, ap, ◌∙◌, subst, arith}
+use Rattle.std.specs.Prelude.{slice_set, ◌==◌}
 use Rattle.std.proofs.lemmas.Bool.{eq-eqb, eqb-true, cases_lt}
 use Rattle.std.proofs.lemmas.List.{length-set}
-use Rattle.std.proofs.lemmas.List.Elements.{filter-append}
 use Rattle.std.proofs.Math.Seq.{take-append_seam}
 use Rattle.adg_base.specs.Shard.{shard_of_vector}
 use Rattle.adg_base.specs.declared.log.LogEntry.{LogEntry}
 use Rattle.core_rules.specs.Share.{share, is_shared_by}
 use Rattle.core_rules.specs.State.{At}
-use Rattle.core_rules.proofs.Lists.{at_same, at_within, at_exists, at_map, at_set_cases, is_true}
+use Rattle.core_rules.proofs.Lists.{at_same, at_within, at_map, at_set_cases, is_true}
 use Rattle.standby_core.specs.declared.worker.Worker.{Worker}
 use Rattle.standby_core.specs.Each.{EachAt}
 use Rattle.standby_core.specs.Received.{GetsShare, AreDealt, HasMore, IsCutBack, AreCutBack}
-use Rattle.standby_core.proofs.Each.{each_left, each_right, each_weaker}
+use Rattle.standby_core.proofs.Each.{each_right, each_weaker}
 use Rattle.standby_core.proofs.Received.{share_more}
 
 -- lists that are equal place by place are equal

@@ -1,10 +1,10 @@
 -- Two lists that are related place by place.
-use Rattle.std.proofs.Common.{◌≡◌, ℕ, ◌+◌, ◌<◌, List, [], ◌∷◌, ◌++◌, length, Some, ◌⊎◌, inl, inr, refl, sym, ap, ◌∙◌, subst, arith}
-use Rattle.std.specs.Prelude.{slice_get, slice_set, replicate}
+use Rattle.std.proofs.Common.{◌≡◌, ℕ, ◌<◌, List, length, ◌⊎◌, inl, inr, sym, ap, ◌∙◌, arith}
+use Rattle.std.specs.Prelude.{slice_set, replicate}
 use Rattle.std.proofs.lemmas.List.{length-set, length-replicate, set-get_or}
 use Rattle.std.proofs.lemmas.Option.{get_or_from_slice_get}
 use Rattle.core_rules.specs.State.{At}
-use Rattle.core_rules.proofs.Lists.{at_same, at_within, at_exists, at_set_cases, at_set_same, at_replicate}
+use Rattle.core_rules.proofs.Lists.{at_within, at_exists, at_set_cases, at_replicate}
 use Rattle.standby_core.specs.Each.{EachAt}
 
 module _ {X Y : Type 0} (R : ℕ → X → Y → Type 0) (xs : List X) (ys : List Y) where

@@ -1,17 +1,13 @@
 -- The worklink that an actor holds, in the core and in the state that it shows, and what stays where it goes on.
-use Rattle.std.proofs.Common.{◌≡◌, ℕ, ◌+◌, ◌<◌, ◌≤◌, Bool, true, false, List, length, Some, ◌⊎◌, inl, inr, refl, sym, ap, ◌∙◌, subst, arith, Vec, Global}
-use Rattle.std.specs.Prelude.{slice_set, count_by, nat_le}
-use Rattle.std.proofs.lemmas.List.{length-set}
+use Rattle.std.proofs.Common.{◌≡◌, ℕ, List, Some, sym, ap, ◌∙◌}
 use Rattle.core_rules.specs.State.{Collected, Stage, Link, Quiesce, At}
 use Rattle.core_rules.specs.State as rules
-use Rattle.core_rules.proofs.Lists.{at_same, at_within, at_set_cases, at_set_same, at_set_kept}
 use Rattle.standby_core.specs.declared.link.Stage.{Stage as OwnStage}
 use Rattle.standby_core.specs.declared.link.Stage.TheVariants.{Unclaimed, Claimed, Finished}
 use Rattle.standby_core.specs.declared.link.Link.{Link as OwnLink}
 use Rattle.standby_core.specs.declared.flush.Flush.{Flush}
-use Rattle.standby_core.specs.Each.{EachAt}
-use Rattle.standby_core.specs.Links.{stage_with, is_unclaimed, is_finished, ShowsLink, AreNumbers, ShowsFlush}
-use Rattle.standby_core.proofs.Each.{each_left, each_right, each_set}
+use Rattle.standby_core.specs.Links.{stage_with, ShowsLink, ShowsFlush}
+use Rattle.standby_core.proofs.Each.{each_left, each_right}
 
 -- a worklink that an actor holds, on both sides
 pub record HeldLink (workers : ℕ) (flush : Flush) (links : List Link) (actor number : ℕ) : Type 0 where

@@ -1,35 +1,29 @@
 -- The laws of the core, from those of its rules.
-use Rattle.std.proofs.Common.{◌≡◌, ℕ, suc, cond, ◌+◌, ◌-◌, ◌*◌, ◌<◌, ◌≤◌, Bool, true, false, List, [], ◌∷◌, length, Option, Some, None, ◌⊎◌, inl, inr, refl, sym, ap, ◌∙◌, subst, arith}
+use Rattle.std.proofs.Common.{◌≡◌, ℕ, suc, cond, ◌+◌, ◌-◌, ◌*◌, ◌<◌, ◌≤◌, Bool, true, List, [], ◌∷◌, length, Option, Some, None, ◌⊎◌, inl, inr, refl, sym, ap, ◌∙◌, subst, arith}
 use Rattle.std.specs.Prelude.{count_by, nat_le}
-use Rattle.std.specs.List.{Contains, AllByRecursion}
+use Rattle.std.specs.List.{Contains}
 use Rattle.adg_base.specs.Address.{Place}
-use Rattle.adg_base.specs.Area.{HoldsPlace, HoldsBegin}
 use Rattle.adg_base.specs.declared.log.LogEntry.{LogEntry}
 use Rattle.adg_model.specs.declared.mined.Mined.TheVariants as mined
 use Rattle.adg_model.specs.Mined.{mined_of}
 use Rattle.column_units.specs.declared.unit.Unit.{Unit as OwnUnit}
 use Rattle.column_units.specs.Unit.{is_marked}
-use Rattle.core_rules.specs.Share.{CommitsAt}
 use Rattle.core_rules.specs.Extents.{IsInExtent}
 use Rattle.core_rules.specs.State.{CoreState, Worker, ColumnUnit, Link, Stage, Collected, At}
 use Rattle.core_rules.specs.State as state
-use Rattle.core_rules.specs.Flush.{Publishes}
 use Rattle.core_rules.specs.Laws.{EndsFlush}
 use Rattle.core_rules.specs.Laws.{IsFlushed as RulesFlushed}
 use Rattle.core_rules.proofs.Lists.{each_from, contains_at}
 use Rattle.std.proofs.lemmas.Bool.{le-leb, lt-leb, cases_lt}
 use Rattle.std.proofs.lemmas.List.Sums.{sum_by-cons}
 use Rattle.core_rules.proofs.Whole as rules
-use Rattle.standby_core.specs.declared.standby.Core.{Core}
 use Rattle.standby_core.specs.declared.worker.Worker.{Worker as OwnWorker}
 use Rattle.standby_core.specs.Parts.{ShowsWorker, ShowsUnit, ShowsAny, unit_in}
-use Rattle.standby_core.specs.Shows.{Shows, IsState}
 use Rattle.standby_core.specs.declared.link.Link.{Link as OwnLink}
 use Rattle.standby_core.specs.declared.link.Stage.{Stage as OwnStage}
 use Rattle.standby_core.specs.declared.link.Stage.TheVariants.{Unclaimed, Claimed, Finished}
-use Rattle.standby_core.specs.declared.flush.Quiesce.TheVariants.{Flushing}
 use Rattle.standby_core.specs.Links.{stage_with, is_unclaimed, quiesce_shown, ShowsLink}
-use Rattle.standby_core.specs.Laws.{IsFlushed, FlushBeforePublish, FlushEnds}
+use Rattle.standby_core.specs.Laws.{FlushBeforePublish, FlushEnds}
 use Rattle.standby_core.proofs.Each.{each_left, each_right}
 
 -- the unit that a unit of the code shows

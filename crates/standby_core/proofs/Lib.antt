@@ -27,8 +27,12 @@ pub mod Marking
 pub mod Touched
 pub mod Scanned
 pub mod ScanLooks
+pub mod NextExtent
 pub mod Seating
 pub mod UnitSets
 pub mod Releasing
 pub mod Registering
 pub mod Populating
+pub mod Filling
+pub mod Installing
+pub mod Ahead

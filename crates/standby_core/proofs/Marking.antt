@@ -1,6 +1,6 @@
 -- Units of a shard that gain marks.
-use Rattle.std.proofs.Common.{◌≡◌, ℕ, suc, ◌+◌, ◌*◌, ◌/◌, ◌<◌, ◌≤◌, Bool, true, false, ◌==◌, ◌&&◌, ◌||◌, if◌then◌else◌, nat_eq, List, [], ◌∷◌, ◌++◌, length, take, get_or, Option, Some, None, option_map, ◌⊎◌, inl, inr, refl, sym, ap, ◌∙◌, subst, arith, ◌↔◌}
-use Rattle.std.specs.List.{Contains, list_any}
+use Rattle.std.proofs.Common.{◌≡◌, ℕ, ◌+◌, ◌/◌, ◌<◌, Bool, true, false, ◌==◌, ◌&&◌, ◌||◌, if◌then◌else◌, List, [], ◌∷◌, ◌++◌, length, take, get_or, Option, Some, None, option_map, ◌⊎◌, inl, inr, refl, sym, ap, ◌∙◌, subst, arith}
+use Rattle.std.specs.List.{Contains}
 use Rattle.std.proofs.lemmas.Bool.{eqb-true, eq-eqb, and_parts, and_from, or_right}
 use Rattle.std.proofs.lemmas.Cmp.{nat_eq_equiv}
 use Rattle.std.proofs.lemmas.List.{take_more}
@@ -10,12 +10,12 @@ use Rattle.adg_base.specs.declared.node.Item.{Item}
 use Rattle.adg_base.specs.declared.node.Item.TheVariants as item
 use Rattle.worklinks.specs.declared.collected.Collected.{Collected as Gathered}
 use Rattle.column_units.specs.declared.unit.Unit.{Unit as OwnUnit}
-use Rattle.column_units.specs.Unit.{is_marked, marked_whole, Marks}
+use Rattle.column_units.specs.Unit.{is_marked, marked_whole}
 use Rattle.column_units.specs.Shard.{Units, unit_at, KeepsOthers, MakesEach, MarksIn}
 use Rattle.dictionary.proofs.Chains.{same_place_true, same_place_refl}
 use Rattle.core_rules.specs.State.{has_coarse, has_drop, is_drop_of}
 use Rattle.core_rules.proofs.Lists.{is_true, not_both}
-use Rattle.standby_core.specs.Touching.{IsOfExtent, GainsMarks, GainsAny, MarksUnits, IsInShard, IsListed, StaysMarked, TouchesAny, TouchesUnits}
+use Rattle.standby_core.specs.Touching.{IsOfExtent, GainsAny, MarksUnits, IsInShard, IsListed, TouchesAny, TouchesUnits}
 use Rattle.standby_core.proofs.Gathering.{any_more}
 
 or_none : (b : Bool) → b ≡ (b || false)

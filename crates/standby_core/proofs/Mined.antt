@@ -1,7 +1,7 @@
 -- A worker mines the next entry that it has applied, and raises its progress.
-use Rattle.std.proofs.Common.{◌≡◌, ℕ, zero, suc, ◌+◌, ◌-◌, ◌<◌, ◌≤◌, get_or, is_lt, nat_cmp, Bool, true, false, cond, List, [], ◌∷◌, ◌++◌, length, take, drop, drop-cons, filter, Option, Some, None, ◌⊎◌, inl, inr, refl, sym, ap, ◌∙◌, subst, arith, true≢false, Vec, Global}
-use Rattle.std.specs.Prelude.{slice_get, slice_set, nat_le, nat_lt, option_to_list, MatchBool}
-use Rattle.std.specs.List.{Contains, AllByRecursion, filter_map}
+use Rattle.std.proofs.Common.{◌≡◌, ℕ, suc, ◌+◌, ◌-◌, ◌<◌, ◌≤◌, get_or, is_lt, nat_cmp, Bool, true, false, cond, List, [], ◌∷◌, ◌++◌, length, take, drop, drop-cons, filter, Option, Some, None, inl, inr, refl, sym, ap, ◌∙◌, subst, arith, Vec, Global}
+use Rattle.std.specs.Prelude.{slice_set, nat_le, nat_lt, option_to_list, MatchBool}
+use Rattle.std.specs.List.{Contains, AllByRecursion}
 use Rattle.std.specs.List.Sorted.{IsNonDecreasingBy}
 use Rattle.std.proofs.lemmas.Grind.{common_steps}
 use Rattle.std.proofs.lemmas.List.{length-drop, get_or-drop}
@@ -16,13 +16,13 @@ use Rattle.adg_base.specs.declared.node.DdlNode.{DdlNode}
 use Rattle.adg_model.specs.declared.mined.Mined.{Mined}
 use Rattle.adg_model.specs.declared.mined.Mined.TheVariants as mined
 use Rattle.adg_model.specs.Mined.{mined_of}
-use Rattle.adg_journal.specs.Area.{IsArea, is_begun}
+use Rattle.adg_journal.specs.Area.{IsArea}
 use Rattle.scn_queue.specs.Queue as queue
 use Rattle.core_rules.specs.declared.event.Event.TheVariants as event
 use Rattle.core_rules.specs.declared.event.CoreAnswer.TheVariants.{NotReady, Moved}
 use Rattle.core_rules.specs.Share.{begun_above, nodes_of, node_of, is_shared_by}
-use Rattle.core_rules.specs.State.{CoreState, Worker, At, share_of, limit, holds_begin}
-use Rattle.core_rules.specs.Applying.{CanMine, Mines, CanRaise, Raises, mined_node, mined_ddl, entered, entered_if, end_kind}
+use Rattle.core_rules.specs.State.{CoreState, Worker, At, share_of, limit}
+use Rattle.core_rules.specs.Applying.{CanMine, CanRaise, mined_node, mined_ddl, entered, entered_if, end_kind}
 use Rattle.core_rules.specs.Parts.{AreByScn}
 use Rattle.core_rules.proofs.Lists.{at_same, at_within, at_contains, contains_at, at_take_back, each_from, has, has_filter_back, has_filter_map_back, contains, filter_order}
 use Rattle.core_rules.proofs.Shares.{node_is, share_log}
@@ -37,7 +37,7 @@ use Rattle.standby_core.specs.Mining.{node_noted, ddl_noted, IsBehind, TakesMine
 use Rattle.standby_core.specs.Parts.{ShowsWorker}
 use Rattle.standby_core.specs.Shows.{Shows, IsState, HasStepped}
 use Rattle.standby_core.proofs.Areas.{holds_same, same_held_trans, takes_same, begun_same}
-use Rattle.standby_core.proofs.Applied.{worker_there, worker_back, no_worker, share_is}
+use Rattle.standby_core.proofs.Applied.{worker_there, share_is}
 use Rattle.standby_core.proofs.Each.{each_set, set_same}
 use Rattle.standby_core.proofs.Kept.{with_workers, with_ddl}
 

@@ -1,15 +1,13 @@
 -- PopBegin: what it makes of the state, what it is refused with, and why such an event can't happen.
-use Rattle.std.proofs.Common.{◌≡◌, ℕ, zero, suc, ◌+◌, ◌<◌, ◌≤◌, Bool, true, false, cond, List, [], ◌∷◌, length, Vec, Global, Option, Some, None, inl, inr, refl, sym, ap, ◌∙◌, subst, arith, true≢false}
-use Rattle.std.specs.Prelude.{◌^◌, slice_set, count_by}
+use Rattle.std.proofs.Common.{◌≡◌, ℕ, ◌+◌, Bool, true, false, cond, List, Vec, Global, Option, Some, None, inl, inr, refl, sym, ap, ◌∙◌, subst, arith}
+use Rattle.std.specs.Prelude.{slice_set}
 use Rattle.std.proofs.lemmas.List.{length-set}
-use Rattle.std.proofs.lemmas.List.Sums.{sum_by-cons, count_by-le-length}
 use Rattle.adg_base.specs.declared.answer.Reply.TheVariants as reply
 use Rattle.adg_base.specs.declared.definition.Definition.{Definition}
 use Rattle.adg_model.specs.Database.{Table, table_at}
 use Rattle.adg_model.specs.Defined.{IsDefinition, AreDefined}
 use Rattle.core_rules.specs.State.{CoreState, Population, Quiesce, Session, At, held_once_more, is_flushing, holds_back, holders}
 use Rattle.core_rules.specs.State as rules
-use Rattle.core_rules.specs.Parts.{QuiesceIs}
 use Rattle.core_rules.specs.Populations.{CanPopulate, population_refusal, new_population}
 use Rattle.core_rules.specs.declared.event.Event.TheVariants as event
 use Rattle.core_rules.specs.declared.event.CoreAnswer.TheVariants.{Moved, Said}
@@ -20,13 +18,12 @@ use Rattle.standby_core.specs.declared.flush.Quiesce.{Quiesce as OwnQuiesce}
 use Rattle.standby_core.specs.declared.flush.Quiesce.TheVariants as keeper
 use Rattle.standby_core.specs.declared.session.Session.{Session as OwnSession}
 use Rattle.standby_core.specs.declared.session.Session.TheVariants.{Free, Populating}
-use Rattle.standby_core.specs.declared.session.Population.{Population as OwnPopulation}
 use Rattle.standby_core.specs.declared.standby.Core.{Core}
 use Rattle.standby_core.specs.Each.{EachAt}
 use Rattle.standby_core.specs.Links.{quiesce_shown, ShowsFlush}
 use Rattle.standby_core.specs.Parts.{ShowsSession, ShowsPopulation}
 use Rattle.standby_core.specs.Populating.{once_more, begun_population}
-use Rattle.standby_core.specs.Shows.{Shows, IsState, HasStepped}
+use Rattle.standby_core.specs.Shows.{IsState, HasStepped}
 use Rattle.standby_core.proofs.Each.{each_set}
 use Rattle.standby_core.proofs.Kept.{with_flush, with_sessions, with_ticket}
 use Rattle.standby_core.proofs.Releasing.{with_keeper}

@@ -1,13 +1,11 @@
 -- Redo that continues the log goes into the shares, and the core shows the longer log.
-use Rattle.std.proofs.Common.{◌≡◌, ℕ, ◌+◌, ◌<◌, ◌≤◌, ◌^◌, Bool, List, [], ◌∷◌, ◌++◌, length, length-append, filter, Option, Some, None, refl, sym, ap, ◌∙◌, subst, arith, Vec, Global}
-use Rattle.std.specs.Prelude.{slice_get}
+use Rattle.std.proofs.Common.{◌≡◌, ℕ, ◌+◌, ◌<◌, ◌^◌, List, ◌++◌, length, length-append, refl, sym, ap, ◌∙◌, subst, arith, Vec, Global}
 use Rattle.std.proofs.lemmas.List.Elements.{filter-append}
 use Rattle.adg_base.specs.Shard.{shard_of_vector}
 use Rattle.adg_base.specs.declared.log.LogEntry.{LogEntry}
-use Rattle.adg_model.specs.Sound.{IsLog, IsContinuation}
+use Rattle.adg_model.specs.Sound.{IsContinuation}
 use Rattle.row_blocks.specs.declared.shard.Shard.{Shard as OwnShard}
 use Rattle.row_blocks.specs.Shard.{shown}
-use Rattle.row_blocks.specs.Stands.{StandsFor}
 use Rattle.row_blocks.proofs.Together.{stands_continued}
 use Rattle.core_rules.specs.Share.{share, is_shared_by}
 use Rattle.core_rules.specs.State.{CoreState, Worker, Shard, At}
@@ -15,11 +13,10 @@ use Rattle.core_rules.specs.Applying.{Receives}
 use Rattle.core_rules.proofs.Whole.{receiving_keeps_invariant, receiving_keeps_precision}
 use Rattle.standby_core.specs.declared.standby.Core.{Core}
 use Rattle.standby_core.specs.declared.worker.Worker.{Worker as OwnWorker}
-use Rattle.standby_core.specs.Each.{EachAt}
 use Rattle.standby_core.specs.Parts.{ShowsWorker, ShowsShard}
 use Rattle.standby_core.specs.Shows.{Shows, IsState}
 use Rattle.standby_core.specs.Received.{HasReceived, GetsShare, AreDealt}
-use Rattle.standby_core.proofs.Each.{each_left, each_right, each_weaker}
+use Rattle.standby_core.proofs.Each.{each_left}
 
 -- the share of a longer log
 pub share_more : (workers worker : ℕ) (log entries : List LogEntry) → share workers worker (log ++ entries) ≡ share workers worker log ++ share workers worker entries

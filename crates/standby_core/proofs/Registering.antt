@@ -1,9 +1,8 @@
 -- PopRegister: what it makes of the state, and why such an event can't happen.
-use Rattle.std.proofs.Common.{◌≡◌, ℕ, ◌+◌, ◌<◌, Bool, true, false, List, length, Vec, Global, Option, Some, None, inl, inr, refl, sym, ap, ◌∙◌, subst, arith, true≢false}
-use Rattle.std.specs.Prelude.{◌&&◌, nat_lt, slice_set, IfSome, IsSome}
+use Rattle.std.proofs.Common.{◌≡◌, ℕ, ◌+◌, ◌<◌, true, List, Vec, Global, Option, Some, None, inr, refl, sym, ap, ◌∙◌, subst, arith, true≢false}
+use Rattle.std.specs.Prelude.{nat_lt, slice_set, IfSome, IsSome}
 use Rattle.std.proofs.lemmas.Bool.{and_parts, and_from, lt-ltb, ltb-true, and_right}
 use Rattle.std.proofs.lemmas.List.{length-set}
-use Rattle.adg_base.specs.Address.{Place}
 use Rattle.adg_base.specs.Shard.{shard_of_unit}
 use Rattle.column_codec.specs.Extent.{is_in_extent}
 use Rattle.column_units.specs.declared.unit.Unit.{Unit as OwnUnit}

@@ -1,11 +1,11 @@
 -- PopRelease: what it makes of the state, and why such an event can't happen.
-use Rattle.std.proofs.Common.{◌≡◌, ℕ, ◌+◌, ◌-◌, ◌≤◌, Bool, true, false, cond, List, length, Vec, Global, Some, inl, inr, refl, sym, ap, ◌∙◌, subst, arith}
-use Rattle.std.specs.Prelude.{◌&&◌, not, nat_le, nat_lt, slice_set}
-use Rattle.std.proofs.lemmas.Bool.{and_parts, and_from, le-leb, leb-true, lt-ltb, ltb-true}
+use Rattle.std.proofs.Common.{◌≡◌, ℕ, ◌+◌, ◌-◌, ◌≤◌, Bool, true, false, cond, List, Vec, Global, inr, refl, sym, ap, ◌∙◌, subst, arith}
+use Rattle.std.specs.Prelude.{nat_le, slice_set}
+use Rattle.std.proofs.lemmas.Bool.{and_parts, and_from, le-leb, leb-true}
 use Rattle.std.proofs.lemmas.List.{length-set}
 use Rattle.core_rules.specs.State.{CoreState, Population, Quiesce, At, held_once_less}
 use Rattle.core_rules.specs.State as rules
-use Rattle.core_rules.specs.Populations.{IsSession, CanRelease}
+use Rattle.core_rules.specs.Populations.{CanRelease}
 use Rattle.core_rules.specs.declared.event.Event.TheVariants as event
 use Rattle.core_rules.specs.declared.event.CoreAnswer.TheVariants.{Moved}
 use Rattle.standby_core.specs.declared.flush.Flush.{Flush}
@@ -20,7 +20,7 @@ use Rattle.standby_core.specs.Each.{EachAt}
 use Rattle.standby_core.specs.Links.{quiesce_shown, ShowsFlush}
 use Rattle.standby_core.specs.Parts.{ShowsSession, ShowsPopulation}
 use Rattle.standby_core.specs.Populating.{is_in, once_less, IsSeat}
-use Rattle.standby_core.specs.Shows.{Shows, IsState, HasStepped}
+use Rattle.standby_core.specs.Shows.{IsState, HasStepped}
 use Rattle.standby_core.proofs.Each.{each_set}
 use Rattle.standby_core.proofs.Kept.{with_flush, with_sessions}
 use Rattle.standby_core.proofs.Seating.{at_in}

@@ -1,7 +1,7 @@
 -- A restart: what each part of the core shows then.
 use Rattle.std.proofs.Common.{◌≡◌, ℕ, zero, suc, ◌+◌, ◌<◌, ◌≤◌, cond, List, [], ◌∷◌, map, length, Option, Some, None, inr, refl, sym, ap, ◌∙◌, subst, arith, Vec, Global, mod-lt}
-use Rattle.std.specs.Prelude.{slice_get, nat_lt, replicate, count_by}
-use Rattle.std.specs.List.{IsDistinct, range_with_len}
+use Rattle.std.specs.Prelude.{nat_lt, replicate, count_by}
+use Rattle.std.specs.List.{range_with_len}
 use Rattle.std.specs.Vec.{with_items}
 use Rattle.std.specs.List.Sorted.{IsNonDecreasingBy}
 use Rattle.std.proofs.lemmas.List.{length-replicate, length-map, with_items_is}
@@ -33,12 +33,13 @@ use Rattle.standby_core.specs.declared.flush.Flush.{Flush}
 use Rattle.standby_core.specs.declared.flush.Quiesce.TheVariants as keeper
 use Rattle.standby_core.specs.Each.{EachAt}
 use Rattle.standby_core.specs.Held.{SameHeld}
-use Rattle.standby_core.specs.Links.{quiesce_shown, is_finished, ShowsLink, AreNumbers, ShowsFlush}
+use Rattle.standby_core.specs.Links.{quiesce_shown, is_finished, ShowsFlush}
 use Rattle.standby_core.specs.Parts.{ShowsWorker, ShowsAny, unit_in_shard, ShowsUnits, ShowsSession}
 use Rattle.standby_core.specs.Restarting.{DoNotFall, GoesBack, IsEmptied}
 use Rattle.standby_core.specs.Restarting as back
-use Rattle.standby_core.specs.Shows.{Shows, IsState, HasStepped}
+use Rattle.standby_core.specs.Shows.{IsState, HasStepped}
 use Rattle.standby_core.proofs.Each.{each_left, each_right}
+use Rattle.standby_core.proofs.Areas.{no_area, nothing_held}
 
 -- both crates say alike where the first entry above an SCN stands
 same_place : (scn : ℕ) (xs : List LogEntry) → own_place.first_above scn xs ≡ first_above scn xs
@@ -65,13 +66,6 @@ at_range : (n a i k : ℕ) → At (range_with_len a n) i k → k ≡ a + i
 at_range zero a i k h = let e : None ≡ Some k = h in absurd cc
 at_range (suc n) a zero k h = let e : Some a ≡ Some k = h in let same : a ≡ k = cc in omega arith
 at_range (suc n) a (suc i) k h = let r = at_range n (a + 1) i k h in omega arith
-
-nothing_held : SameHeld [] []
-nothing_held = record { places = λ t a h. h; places_back = λ t a h. h; begins = λ t h. h; begins_back = λ t h. h }
-
-no_area : IsArea []
-unfolding IsDistinct
-no_area = record { once = tt; each = λ txn. tt }
 
 workers_back : (core : Core) (c : CoreState) → IsState core c → (ws : List OwnWorker) → EachAt (λ n. GoesBack core.query) core.workers.items ws
     → EachAt (ShowsWorker core.worker_count c.log) ws (rewound_workers c.query c.log (length c.workers))

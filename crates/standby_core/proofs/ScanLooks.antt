@@ -17,7 +17,7 @@ use Rattle.column_units.specs.declared.unit.UnitState.{UnitState}
 use Rattle.column_units.specs.declared.unit.UnitState.TheVariants.{Loading, Ready}
 use Rattle.core_rules.specs.State.{ColumnUnit}
 use Rattle.standby_core.specs.Parts.{rows_shown, ShowsUnit}
-use Rattle.hybrid_scan.specs.Scan.{wide, stored_by, extent_rows, scanned, from_store}
+use Rattle.hybrid_scan.specs.Scan.{wide, extent_rows, scanned, from_store}
 use Rattle.core_rules.specs.Scans.{Look, look_if, look_at, row_in, gathered_at, gathered, from_blocks, count_from_blocks}
 use Rattle.core_rules.proofs.Lists.{Has}
 

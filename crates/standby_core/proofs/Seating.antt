@@ -1,11 +1,12 @@
 -- A list of a vector where one place is set.
-use Rattle.std.proofs.Common.{◌≡◌, ℕ, ◌<◌, List, length, Vec, Global, Some, sym, ap, ◌∙◌, subst}
-use Rattle.std.specs.Prelude.{slice_set}
+use Rattle.std.proofs.Common.{◌≡◌, ℕ, ◌<◌, List, length, Vec, Global, sym, ap, ◌∙◌, subst}
+use Rattle.std.specs.Prelude.{slice_set, slice_index_or}
 use Rattle.std.specs.Vec.{with_items}
 use Rattle.std.proofs.lemmas.List.{length-set, with_items_is}
 use Rattle.column_units.specs.Shard.{Units}
 use Rattle.core_rules.specs.State.{At}
-use Rattle.core_rules.proofs.Lists.{at_within}
+use Rattle.std.proofs.lemmas.Option.{get_or_from_slice_get}
+use Rattle.core_rules.proofs.Lists.{at_within, at_exists}
 use Rattle.standby_core.specs.declared.populate.Phase.{Phase}
 use Rattle.standby_core.specs.declared.session.Session.{Session}
 use Rattle.standby_core.specs.declared.session.Session.TheVariants.{Populating}
@@ -16,6 +17,10 @@ set_left v place x from to f t = with_items_is v to (ap length t ∙ length-set 
 
 pub at_in : {X : Type 0} (xs ys : List X) (place : ℕ) (x : X) → xs ≡ ys → At xs place x → At ys place x
 at_in xs ys place x e h = subst (λ zs. At zs place x) e h
+
+-- what is read at a place of a list stands there
+pub item_at : {X : Type 0} (xs : List X) (place : ℕ) (x d : X) → place < length xs → slice_index_or xs place d ≡ x → At xs place x
+item_at xs place x d within e = let s = at_exists xs place within in subst (At xs place) (sym (get_or_from_slice_get xs place s.0 d s.1) ∙ e) s.1
 
 -- a seat is one of the sessions
 pub seat_within : (xs ys items : List Session) (session : ℕ) (phase : Phase) (place : ℕ) → xs ≡ items → ys ≡ items → IsSeat xs session phase place → place < length ys

@@ -1,5 +1,5 @@
 -- What stands at a session's place shows what the state has there.
-use Rattle.std.proofs.Common.{◌≡◌, ℕ, ◌+◌, List, Some, refl, sym, ap, ◌∙◌, subst, arith}
+use Rattle.std.proofs.Common.{◌≡◌, ℕ, List, refl, subst}
 use Rattle.core_rules.specs.State.{Session, Population, Scan, At}
 use Rattle.core_rules.specs.State as rules
 use Rattle.standby_core.specs.declared.session.Session.{Session as OwnSession}

@@ -1,9 +1,8 @@
 -- A shard of the row store that takes the next entry of its own stands for the log still.
-use Rattle.std.proofs.Common.{◌≡◌, ℕ, ◌+◌, ◌<◌, ◌≤◌, ◌^◌, max, Bool, true, false, cond, nat_lt, List, [], ◌∷◌, ◌++◌, length, take, drop, filter, Option, Some, None, ◌⊎◌, inl, inr, refl, sym, ap, ◌∙◌, subst, arith, true≢false, append_assoc}
+use Rattle.std.proofs.Common.{◌≡◌, ℕ, ◌+◌, ◌<◌, ◌≤◌, ◌^◌, max, Bool, true, cond, nat_lt, List, [], ◌∷◌, ◌++◌, length, take, drop, filter, Option, Some, None, ◌⊎◌, inl, inr, refl, sym, ap, ◌∙◌, subst, arith, true≢false, append_assoc}
 use Rattle.std.proofs.lemmas.List.{take-append-drop}
 use Rattle.std.specs.List.{Contains, AllByRecursion}
 use Rattle.std.proofs.lemmas.Bool.{eqb-true, eq-eqb, lt-ltb, le-ltb, cases_lt}
-use Rattle.adg_base.specs.Address.{Place}
 use Rattle.adg_base.specs.Shard.{shard_of_vector}
 use Rattle.adg_base.specs.declared.log.LogEntry.{LogEntry}
 use Rattle.adg_model.specs.Sound.{IsLog}
@@ -11,9 +10,8 @@ use Rattle.row_blocks.specs.declared.shard.Shard.{Shard as OwnShard}
 use Rattle.row_blocks.specs.declared.shard.Applied.{Applied}
 use Rattle.row_blocks.specs.declared.shard.Applied.TheVariants.{Already, Done}
 use Rattle.row_blocks.specs.Shard.{shown}
-use Rattle.row_blocks.specs.declared.version.End.{End}
 use Rattle.row_blocks.specs.declared.version.Version.{Version}
-use Rattle.row_blocks.specs.Stands.{Kept, IsSlot, same_shard, is_own, own_below, is_open, StandsFor, HasApplied, IsNext, SameKept, StandsForMore, after_entry}
+use Rattle.row_blocks.specs.Stands.{Kept, same_shard, is_own, own_below, is_open, StandsFor, IsNext, SameKept, StandsForMore, after_entry}
 use Rattle.row_blocks.specs.Versions.{versions_of, end_of}
 use Rattle.row_blocks.specs.Law.{commits_at}
 use Rattle.row_blocks.specs.Pick.{picked_by}

@@ -1,14 +1,10 @@
 -- A core as it starts shows the opening state.
-use Rattle.std.proofs.Common.{◌≡◌, ℕ, ◌+◌, ◌<◌, ◌≤◌, ◌%◌, Bool, true, false, List, [], ◌∷◌, ◌++◌, length, length-append, Option, Some, None, ◌⊎◌, inl, inr, refl, sym, ap, ◌∙◌, subst, arith, Vec, Global, mod-lt}
+use Rattle.std.proofs.Common.{◌≡◌, ℕ, ◌+◌, ◌<◌, ◌≤◌, List, [], ◌∷◌, ◌++◌, length, length-append, Option, Some, None, ◌⊎◌, inl, inr, refl, sym, ap, ◌∙◌, subst, arith, Vec, Global, mod-lt}
 use Rattle.std.specs.Prelude.{slice_get, replicate, count_by}
 use Rattle.std.proofs.lemmas.Bool.{cases_lt}
 use Rattle.std.proofs.lemmas.List.{length-replicate}
 use Rattle.adg_base.specs.Shard.{shard_of_unit}
-use Rattle.adg_base.specs.Area.{Held}
-use Rattle.adg_base.specs.declared.log.LogEntry.{LogEntry}
 use Rattle.adg_base.specs.declared.node.DdlNode.{DdlNode}
-use Rattle.std.specs.List.{IsDistinct}
-use Rattle.adg_journal.specs.Area.{IsArea}
 use Rattle.row_blocks.specs.declared.shard.Shard.{Shard as OwnShard}
 use Rattle.row_blocks.specs.Shard.{shown}
 use Rattle.row_blocks.specs.Stands.{StandsFor, Kept}
@@ -18,30 +14,20 @@ use Rattle.column_units.specs.Shard as own
 use Rattle.core_rules.specs.State.{CoreState, Worker, Shard, Link, Session, At, opening, idle_worker, empty_shard, no_units}
 use Rattle.core_rules.specs.State as rules
 use Rattle.core_rules.proofs.Lists.{at_exists, at_within, at_same, at_append_within, at_replicate}
-use Rattle.standby_core.specs.declared.standby.Core.{Core}
 use Rattle.standby_core.specs.declared.worker.Worker.{Worker as OwnWorker}
 use Rattle.standby_core.specs.declared.session.Session.{Session as OwnSession}
 use Rattle.standby_core.specs.declared.session.Session.TheVariants as own_session
 use Rattle.standby_core.specs.declared.link.Link.{Link as OwnLink}
-use Rattle.standby_core.specs.declared.flush.Flush.{Flush}
 use Rattle.standby_core.specs.declared.flush.Quiesce.TheVariants as own_quiesce
 use Rattle.standby_core.specs.Each.{EachAt}
-use Rattle.standby_core.specs.Held.{SameHeld}
-use Rattle.standby_core.specs.Links.{is_finished, ShowsLink, AreNumbers, ShowsFlush}
+use Rattle.standby_core.specs.Links.{is_finished, ShowsFlush}
 use Rattle.standby_core.specs.Parts.{ShowsWorker, ShowsShard, ShowsAny, unit_in_shard, ShowsUnits, AreEmpty, ShowsSession}
 use Rattle.standby_core.specs.Shows.{Shows}
 use Rattle.standby_core.proofs.Each.{each_replicate}
+use Rattle.standby_core.proofs.Areas.{no_area, nothing_held}
 
 abbrev pub own_idle : OwnWorker
 own_idle = record { share = []; applied = 0; mined = 0; progress = 0; area = []; ends = [] }
-
--- an area that holds nothing
-no_area : IsArea []
-unfolding IsDistinct
-no_area = record { once = tt; each = λ txn. tt }
-
-nothing_held : SameHeld [] []
-nothing_held = record { places = λ t a h. h; places_back = λ t a h. h; begins = λ t h. h; begins_back = λ t h. h }
 
 nothing_at : {X : Type 0} (n : ℕ) (x : X) → At [] n x → ⊥
 nothing_at n x h = let e : None ≡ Some x = h in absurd cc

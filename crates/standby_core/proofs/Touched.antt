@@ -1,7 +1,7 @@
 -- A worklink touches the units of the shard at its cursor.
-use Rattle.std.proofs.Common.{◌≡◌, ℕ, ◌+◌, ◌-◌, ◌*◌, ◌/◌, ◌%◌, ◌<◌, ◌≤◌, Bool, true, false, cond, ◌==◌, ◌||◌, List, [], ◌∷◌, length, Option, Some, None, ◌⊎◌, inl, inr, refl, sym, ap, ◌∙◌, subst, arith, Vec, Global}
+use Rattle.std.proofs.Common.{◌≡◌, ℕ, ◌+◌, ◌*◌, ◌/◌, ◌<◌, ◌≤◌, Bool, true, false, cond, ◌==◌, ◌||◌, List, length, Option, Some, None, ◌⊎◌, inl, inr, refl, sym, ap, ◌∙◌, subst, arith, Vec, Global}
 use Rattle.std.specs.Prelude.{slice_get, slice_set}
-use Rattle.std.specs.List.{Contains, AllByRecursion}
+use Rattle.std.specs.List.{AllByRecursion}
 use Rattle.std.specs.List.Sorted.{IsNonDecreasingBy}
 use Rattle.std.proofs.lemmas.Bool.{eqb-true, eq-eqb, cases_eq}
 use Rattle.std.proofs.lemmas.List.{length-set}
@@ -17,16 +17,16 @@ use Rattle.core_rules.specs.declared.event.CoreAnswer.TheVariants.{NotReady, Mov
 use Rattle.core_rules.specs.Extents.{IsInExtent}
 use Rattle.core_rules.specs.State.{CoreState, Collected, ColumnUnit, Units, Link, At, has_change, has_coarse, has_drop, HasCollected}
 use Rattle.core_rules.specs.State as rules
-use Rattle.core_rules.specs.Flush.{HasLink, CanTouch, Touches, Marks, IsMarked, IsKeptMarked, IsTouched}
+use Rattle.core_rules.specs.Flush.{CanTouch, Marks, IsMarked, IsTouched}
 use Rattle.core_rules.proofs.Lists.{each_contains, each_weaker, at_within, at_exists, at_set_cases, at_set_same, at_set_other}
 use Rattle.standby_core.specs.declared.standby.Core.{Core}
 use Rattle.standby_core.specs.declared.link.Stage.TheVariants.{Claimed}
 use Rattle.standby_core.specs.declared.link.Link.{Link as OwnLink}
 use Rattle.standby_core.specs.Links.{AreFew, HasGathered, IsReadyList, ShowsLink, shard_of_place}
 use Rattle.standby_core.specs.Parts.{rows_shown, ShowsUnit, ShowsAny, unit_in, unit_in_shard, ShowsUnits}
-use Rattle.standby_core.specs.Shows.{Shows, IsState, HasStepped}
-use Rattle.standby_core.specs.Touching.{IsOfExtent, GainsMarks, IsInShard, IsListed, StaysMarked, TouchesAny, TouchesUnits}
-use Rattle.standby_core.proofs.Cursor.{none_held, is_held, shown_link, own_stage, has_link, only_link, flush_goes_on, flush_stays}
+use Rattle.standby_core.specs.Shows.{IsState, HasStepped}
+use Rattle.standby_core.specs.Touching.{IsOfExtent, GainsMarks, IsListed, TouchesAny, TouchesUnits}
+use Rattle.standby_core.proofs.Cursor.{none_held, shown_link, own_stage, has_link, only_link, flush_goes_on, flush_stays}
 use Rattle.standby_core.proofs.Kept.{with_units, with_flush}
 
 -- lists that are ready are in the order of unit shards

@@ -1,6 +1,6 @@
 -- What a worklink takes from an area.
 use Rattle.std.specs.Prelude.{◌≡◌, ℕ, ◌+◌, ◌≤◌, Bool, true, false, ◌==◌, if◌then◌else◌, List, length, None, ◌⊎◌}
-use Rattle.std.specs.List.{Contains, AllByRecursion, list_any}
+use Rattle.std.specs.List.{Contains, AllByRecursion}
 use Rattle.adg_base.specs.Address.{Place}
 use Rattle.adg_base.specs.Area.{Held}
 use Rattle.adg_base.specs.declared.node.Item.{Item}

@@ -1,5 +1,5 @@
 -- What a shard of the row store makes of an entry of its own, applied before or not.
-use Rattle.std.specs.Prelude.{◌≡◌, ℕ, ◌+◌, ◌<◌, ◌≤◌, ◌^◌, max}
+use Rattle.std.specs.Prelude.{◌≡◌, ◌+◌, ◌<◌, ◌≤◌, ◌^◌, max}
 use Rattle.adg_base.specs.declared.log.LogEntry.{LogEntry}
 use Rattle.row_blocks.specs.declared.shard.Shard.{Shard}
 use Rattle.row_blocks.specs.Shard.{shown}

@@ -1,5 +1,5 @@
 -- What holds of cores that show states, beside what each call promises.
-use Rattle.std.specs.Prelude.{◌≡◌, ℕ, ◌+◌, ◌-◌, ◌*◌, ◌<◌, ◌≤◌, true, List, length, Option, Some, None, ◌⊎◌}
+use Rattle.std.specs.Prelude.{◌≡◌, ℕ, ◌+◌, ◌-◌, ◌*◌, ◌<◌, ◌≤◌, true, List, length, Some, ◌⊎◌}
 use Rattle.std.specs.List.{Contains}
 use Rattle.adg_base.specs.Address.{Place}
 use Rattle.adg_base.specs.Area.{HoldsPlace, HoldsBegin}

@@ -14,4 +14,7 @@ pub mod Restarting
 pub mod Collecting
 pub mod Touching
 pub mod Scans
+pub mod NextExtent
 pub mod Populating
+pub mod Filling
+pub mod Duty

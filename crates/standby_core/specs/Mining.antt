@@ -1,5 +1,5 @@
 -- What an entry that is mined makes of a worker and of the table of changes of definitions.
-use Rattle.std.specs.Prelude.{◌≡◌, ℕ, ◌+◌, ◌<◌, ◌≤◌, Bool, List, ◌++◌, Option, Some, None, option_to_list}
+use Rattle.std.specs.Prelude.{◌≡◌, ℕ, ◌<◌, ◌≤◌, List, ◌++◌, Option, Some, None, option_to_list}
 use Rattle.std.specs.List.{AllByRecursion}
 use Rattle.adg_base.specs.Area.{Held}
 use Rattle.adg_base.specs.declared.node.Node.{Node}

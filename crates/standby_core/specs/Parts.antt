@@ -1,5 +1,5 @@
 -- What the workers, the shards of the row store, the column units and the sessions show.
-use Rattle.std.specs.Prelude.{◌≡◌, ℕ, ◌≤◌, Bool, true, List, length, slice_get, Option, Some, None}
+use Rattle.std.specs.Prelude.{◌≡◌, ℕ, List, length, slice_get, Option, Some, None}
 use Rattle.adg_base.specs.Address.{Place}
 use Rattle.adg_base.specs.Shard.{shard_of_unit}
 use Rattle.adg_base.specs.declared.placed.PlacedRow.{PlacedRow}

@@ -5,7 +5,7 @@ use Rattle.adg_model.specs.Sound.{IsContinuation}
 use Rattle.core_rules.specs.Share.{share}
 use Rattle.core_rules.specs.State.{CoreState, At}
 use Rattle.core_rules.specs.Applying.{Receives}
-use Rattle.core_rules.specs.Invariant.{Invariant, Precise}
+use Rattle.core_rules.specs.Invariant.{Precise}
 use Rattle.standby_core.specs.declared.standby.Core.{Core}
 use Rattle.standby_core.specs.declared.worker.Worker.{Worker}
 use Rattle.standby_core.specs.Each.{EachAt}

@@ -1,6 +1,5 @@
 -- What state of the rules a core shows, and what its calls make of it.
-use Rattle.std.specs.Prelude.{◌≡◌, ℕ, ◌<◌, ◌^◌, List, length, Result, Ok, Err}
-use Rattle.adg_base.specs.declared.log.LogEntry.{LogEntry}
+use Rattle.std.specs.Prelude.{◌≡◌, ◌<◌, ◌^◌, length}
 use Rattle.core_rules.specs.declared.event.Event.{Event}
 use Rattle.core_rules.specs.declared.event.CoreAnswer.{CoreAnswer}
 use Rattle.core_rules.specs.State.{CoreState}

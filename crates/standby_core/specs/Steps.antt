@@ -1,11 +1,10 @@
 -- What holds after each step, and which events take no memory.
-use Rattle.std.specs.Prelude.{◌≡◌}
 use Rattle.core_rules.specs.declared.event.Event.{Event}
 use Rattle.core_rules.specs.declared.event.Event.TheVariants as event
 use Rattle.core_rules.specs.declared.event.CoreAnswer.{CoreAnswer}
 use Rattle.core_rules.specs.State.{CoreState}
 use Rattle.core_rules.specs.Step.{Steps}
-use Rattle.core_rules.specs.Invariant.{Invariant, Precise}
+use Rattle.core_rules.specs.Invariant.{Precise}
 use Rattle.standby_core.specs.declared.standby.Core.{Core}
 use Rattle.standby_core.specs.Shows.{IsState}
 
@@ -27,15 +26,3 @@ TakesNoMemory event.Publish = Unit {0}
 TakesNoMemory (event.PopRelease session) = Unit {0}
 TakesNoMemory event.Restart = Unit {0}
 TakesNoMemory other = ⊥
-
--- all events are built but those of populations and of scans
-abbrev pub IsBuilt : Event → Type 0
-IsBuilt (event.PopBegin session obj) = ⊥
-IsBuilt (event.PopRegister session) = ⊥
-IsBuilt (event.PopRelease session) = ⊥
-IsBuilt (event.PopRead session) = ⊥
-IsBuilt (event.PopEnd session) = ⊥
-IsBuilt (event.ScanBegin session select) = ⊥
-IsBuilt (event.ScanExtent session) = ⊥
-IsBuilt (event.ScanEnd session) = ⊥
-IsBuilt other = Unit {0}

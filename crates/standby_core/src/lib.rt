@@ -5,6 +5,9 @@
 mod begin_flush;
 mod claim;
 mod collect;
+pub mod duties;
+mod extent;
+mod fill;
 pub mod flush;
 pub mod law;
 pub mod link;

@@ -28,7 +28,7 @@ use std::alloc::Global;
 /// What a population does next: it registers a unit, has registered all of them, reads a block, or has
 /// read all blocks of its extent.
 #[derive(Clone, Copy)]
-enum Phase {
+pub(crate) enum Phase {
     Registering,
     Registered,
     Reading,
@@ -219,7 +219,7 @@ impl Session {
 const BLOCKS: u8 = 16;
 
 /// The place of a session whose population is in a phase.
-fn in_phase(sessions: &[Session], session: u8, phase: Phase) -> Option<usize>
+pub(crate) fn in_phase(sessions: &[Session], session: u8, phase: Phase) -> Option<usize>
     ensures none { result ≡ None → (place : ℕ) (p : Populates) → session ≡ place + 1 → At sessions.now place (seat.Populating p) → is_in phase p ≡ true → ⊥ }
     ensures some { IfSome result (IsSeat sessions.now session phase) }
 {

@@ -2,7 +2,7 @@ ghost use Rattle.std.specs.Prelude.{IsOk, IfOk, OnErr};
 ghost use Rattle.core_rules.specs.State.{CoreState};
 ghost use Rattle.dictionary.specs.Standing.{StandsFor};
 ghost use Rattle.standby_core.specs.Shows.{IsState, HasState};
-ghost use Rattle.standby_core.specs.Steps.{IsBuilt, Keeps, TakesNoMemory};
+ghost use Rattle.standby_core.specs.Steps.{Keeps, TakesNoMemory};
 
 use crate::standby::Core;
 use adg_base::memory::Memory;
@@ -11,11 +11,10 @@ use dictionary::Dictionary;
 
 impl Core {
     /// What the core answers to an event, and makes of it. `NotReady` says that the event can't happen
-    /// now, and then nothing changed. Populations and scans are not built: their events are answered
-    /// `NotReady` in any case.
+    /// now, and then nothing changed.
     pub fn step(&mut self, event: Event, dictionary: &Dictionary) -> Result<CoreAnswer, Memory>
         requires { HasState self.old }
-        ensures steps { IfOk result (λ answer. IsBuilt event → (c : CoreState) → IsState self.old c → StandsFor dictionary.now c.log → Keeps self.new c event answer) }
+        ensures steps { IfOk result (λ answer. (c : CoreState) → IsState self.old c → StandsFor dictionary.now c.log → Keeps self.new c event answer) }
         ensures err { OnErr result ((c : CoreState) → IsState self.old c → IsState self.new c) }
         ensures sure { TakesNoMemory event → IsOk result }
     {
@@ -30,14 +29,14 @@ impl Core {
             Event::Done { actor } => Ok(self.done(actor)),
             Event::Publish => Ok(self.publish()),
             Event::Restart => Ok(self.restart()),
-            Event::PopBegin { .. }
-            | Event::PopRegister { .. }
-            | Event::PopRelease { .. }
-            | Event::PopRead { .. }
-            | Event::PopEnd { .. }
-            | Event::ScanBegin { .. }
-            | Event::ScanExtent { .. }
-            | Event::ScanEnd { .. } => Ok(CoreAnswer::NotReady),
+            Event::PopBegin { session, obj } => self.pop_begin(session, obj, dictionary),
+            Event::PopRegister { session } => self.pop_register(session),
+            Event::PopRelease { session } => Ok(self.pop_release(session)),
+            Event::PopRead { session } => self.pop_read(session),
+            Event::PopEnd { session } => self.pop_end(session),
+            Event::ScanBegin { session, select } => self.scan_begin(session, select, dictionary),
+            Event::ScanExtent { session } => self.scan_extent(session),
+            Event::ScanEnd { session } => self.scan_end(session),
         }
     }
 }

@@ -25,3 +25,4 @@ pub mod Joined
 pub mod ToldOn
 pub mod Whole
 pub mod Driving
+pub mod Cursors

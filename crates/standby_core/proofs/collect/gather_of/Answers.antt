@@ -1,4 +1,3 @@
-use Rattle.std.proofs.Common.{rules}
 use Rattle.standby_core.proofs.Gathering.{held_taken}
 use Rattle.standby_core.proofs.collect.gather_of.Goals as goal
 

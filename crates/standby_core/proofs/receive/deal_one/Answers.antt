@@ -4,7 +4,6 @@ use Rattle.std.proofs.lemmas.Option.{slice_get-get_or}
 use Rattle.adg_base.specs.Shard.{shard_of_vector}
 use Rattle.adg_base.specs.declared.log.LogEntry.{LogEntry}
 use Rattle.core_rules.specs.State.{At}
-use Rattle.standby_core.specs.declared.worker.Worker.{Worker}
 use Rattle.standby_core.specs.Received.{AreDealt}
 use Rattle.standby_core.proofs.Deals.{dealt_one}
 use Rattle.standby_core.proofs.receive.deal_one.Goals as goal

@@ -1,4 +1,4 @@
-use Rattle.std.proofs.Common.{◌≡◌, sym, subst, ◌∙◌}
+use Rattle.std.proofs.Common.{subst}
 use Rattle.standby_core.specs.Received.{AreCutBack}
 use Rattle.standby_core.proofs.Deals.{cut_restores}
 use Rattle.standby_core.proofs.receive.deal_whole.Goals as goal

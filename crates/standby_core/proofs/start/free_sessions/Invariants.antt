@@ -1,5 +1,4 @@
-use Rattle.std.proofs.Common.{◌≡◌, [], None, replicate}
-use Rattle.standby_core.specs.declared.worker.Worker.{Worker}
+use Rattle.std.proofs.Common.{◌≡◌, replicate}
 use Rattle.standby_core.specs.declared.session.Session.TheVariants.{Free}
 use Rattle.standby_core.proofs.start.free_sessions.Given as goal
 

@@ -1,6 +1,4 @@
-use Rattle.std.proofs.Common.{◌≡◌, [], None, replicate}
-use Rattle.standby_core.specs.declared.worker.Worker.{Worker}
-use Rattle.standby_core.specs.declared.session.Session.TheVariants.{Free}
+use Rattle.std.proofs.Common.{◌≡◌, None, replicate}
 use Rattle.standby_core.proofs.start.holding_nothing.Given as goal
 
 abbrev pub invariant-loop : goal.invariant-loop

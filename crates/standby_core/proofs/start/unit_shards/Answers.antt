@@ -1,5 +1,4 @@
-use Rattle.std.proofs.Common.{◌≡◌, ◌+◌, ◌≤◌, ℕ, List, ◌∷◌, [], ◌++◌, length, length-append, arith, sym, ap, ◌∙◌, subst}
-use Rattle.column_units.specs.Shard as own
+use Rattle.std.proofs.Common.{◌≡◌, ◌+◌, ◌≤◌, ◌∷◌, [], ◌++◌, length, length-append, arith, ap, ◌∙◌, subst}
 use Rattle.core_rules.specs.State.{At}
 use Rattle.standby_core.proofs.Started.{one_more_shard}
 use Rattle.standby_core.proofs.start.unit_shards.Goals as goal

@@ -1,4 +1,4 @@
-use Rattle.std.proofs.Common.{◌≡◌, ◌<◌, length, rules, refl, sym, true≢false, arith}
+use Rattle.std.proofs.Common.{◌≡◌, ◌<◌, length, refl, sym, true≢false, arith}
 use Rattle.std.specs.Prelude.{slice_get, None}
 use Rattle.core_rules.specs.State.{At}
 use Rattle.standby_core.proofs.Cursor.{number_within, is_held}

@@ -1,4 +1,4 @@
-use Rattle.std.proofs.Common.{◌≡◌, ◌+◌, length, inl, refl, sym, ◌∙◌}
+use Rattle.std.proofs.Common.{inl, refl, sym, ◌∙◌}
 use Rattle.standby_core.proofs.Claiming.{link_held, done_barred, done_moves, done_needs_link, done_below, places_are}
 use Rattle.standby_core.proofs.standby.Core.done.Goals as goal
 use Rattle.standby_core.proofs.standby.Core.done.Goals.{in_default-via-in-Some+else-has_come_to, in_default-via-in_default}

@@ -1,8 +1,7 @@
-use Rattle.std.proofs.Common.{◌≡◌, ◌<◌, ◌≤◌, ◌-◌, length, drop, arith, rules, Some, None, [], sym, ap, ◌∙◌, subst}
-use Rattle.std.specs.Prelude.{slice_get}
+use Rattle.std.proofs.Common.{◌≡◌, ◌<◌, ◌≤◌, ◌-◌, length, arith, rules, Some, sym, ap, ◌∙◌, subst}
 use Rattle.std.proofs.lemmas.Option.{slice_get-get_or}
 use Rattle.core_rules.specs.State.{At}
-use Rattle.standby_core.proofs.Applied.{worker_there, workers_count}
+use Rattle.standby_core.proofs.Applied.{workers_count}
 use Rattle.standby_core.proofs.Mined.{through_next, through_all}
 use Rattle.standby_core.proofs.Exits.{lent_at}
 use Rattle.standby_core.proofs.standby.Core.mined_through.Goals as goal

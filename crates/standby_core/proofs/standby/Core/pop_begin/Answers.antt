@@ -3,9 +3,8 @@ use Rattle.std.specs.Prelude.{slice_set}
 use Rattle.core_rules.proofs.Lists.{at_within}
 use Rattle.standby_core.specs.declared.session.Population.{Population}
 use Rattle.standby_core.specs.declared.session.Session.TheVariants.{Free, Populating}
-use Rattle.standby_core.specs.Populating.{begun_population}
 use Rattle.standby_core.proofs.Seating.{set_left, at_in}
-use Rattle.standby_core.proofs.Populating.{taken_barred, flushing_barred, no_table, not_in_memory, begin_population_moves}
+use Rattle.standby_core.proofs.Populating.{taken_barred, no_table, not_in_memory, begin_population_moves}
 use Rattle.standby_core.proofs.standby.Core.pop_begin.Goals as goal
 
 pub returns-in_default-clause-ok : goal.returns-in_default-clause-ok

@@ -1,4 +1,4 @@
-use Rattle.std.proofs.Common.{◌≡◌, ◌<◌, ◌≤◌, length, drop, arith, Bool, true, Some, refl, rules, sym, ap, ◌∙◌, subst}
+use Rattle.std.proofs.Common.{◌≡◌, ◌<◌, ◌≤◌, drop, Some, rules, sym, ap, ◌∙◌, subst}
 use Rattle.std.specs.Prelude.{slice_set, MatchBool}
 use Rattle.std.specs.Vec.{with_item}
 use Rattle.std.specs.List.{AllByRecursion}

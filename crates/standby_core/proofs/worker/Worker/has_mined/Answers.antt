@@ -1,4 +1,3 @@
-use Rattle.std.proofs.Common.{◌≡◌, ◌<◌, Bool, length, arith, rules, sym, ap, ◌∙◌}
 use Rattle.core_rules.specs.State.{At}
 use Rattle.standby_core.proofs.Mined.{first_tells}
 use Rattle.standby_core.proofs.Exits.{lent_at}

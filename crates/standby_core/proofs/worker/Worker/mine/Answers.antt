@@ -6,7 +6,6 @@ use Rattle.adg_model.specs.declared.mined.Mined.{Mined}
 use Rattle.adg_model.specs.Mined.{mined_of}
 use Rattle.core_rules.specs.State.{At}
 use Rattle.core_rules.proofs.Lists.{at_same}
-use Rattle.standby_core.specs.declared.worker.Worker.{Worker}
 use Rattle.standby_core.specs.Mining.{TakesMined}
 use Rattle.standby_core.proofs.Taken.{mined_more}
 use Rattle.standby_core.proofs.Exits.{at_err}

@@ -1,7 +1,7 @@
-use Rattle.std.proofs.Common.{◌≡◌, Some, None, rules, ap, ◌∙◌}
+use Rattle.std.proofs.Common.{◌≡◌, Some, rules}
 use Rattle.std.proofs.lemmas.Result.{on_ok_weaker, on_err_weaker}
 use Rattle.adg_model.specs.declared.mined.Mined.TheVariants as mined
-use Rattle.standby_core.proofs.Taken.{took_begin, took_note, took_end, took_ddl, took_none, stays_area, stays_ends, stays_all, behind_scns, behind_places}
+use Rattle.standby_core.proofs.Taken.{took_begin, took_note, stays_area}
 use Rattle.standby_core.proofs.worker.Worker.take.Goals as goal
 
 pub returns-in-Some-Begin-clause-ok : goal.returns-in-Some-Begin-clause-ok

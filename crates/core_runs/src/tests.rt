@@ -1,0 +1,9 @@
+mod flushes;
+mod guards;
+mod line;
+mod play;
+mod populations;
+mod refusals;
+mod restarts;
+mod scans;
+mod words;

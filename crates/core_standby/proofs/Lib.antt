@@ -1,0 +1,2 @@
+pub mod OneDelivery
+pub mod RanLaws

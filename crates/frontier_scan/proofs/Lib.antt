@@ -1,3 +1,0 @@
-pub mod BlockRows
-pub mod Extents
-pub mod QueryReplies

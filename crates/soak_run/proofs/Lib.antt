@@ -1,0 +1,13 @@
+pub mod Options
+pub mod Numbers
+pub mod OptionsRead
+pub mod Stands
+pub mod Lines
+pub mod LastLines
+pub mod Reading
+pub mod Cells
+pub mod Replies
+pub mod Asked
+pub mod Tables
+pub mod Summed
+pub mod Soaked

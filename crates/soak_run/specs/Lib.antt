@@ -1,0 +1,4 @@
+pub mod Run
+pub mod Summary
+pub mod Telling
+pub mod Words

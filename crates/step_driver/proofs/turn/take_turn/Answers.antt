@@ -1,0 +1,112 @@
+use Rattle.std.proofs.Common.{◌≡◌, ℕ, ◌+◌, ◌-◌, ◌<◌, ◌≤◌, Bool, true, false, cond, List, [], ◌∷◌, length, Option, Some, None, inl, inr, refl, sym, ap, ◌∙◌, subst, arith}
+use Rattle.std.specs.Prelude.{Result, Ok, Err, OnOk, OnErr, nat_le, ◌==◌, ◌||◌}
+use Rattle.std.proofs.lemmas.Bool.{leb-true, eqb-false}
+use Rattle.adg_base.specs.declared.answer.Reply.{Reply}
+use Rattle.core_rules.specs.State.{CoreState}
+use Rattle.standby_core.proofs.Exits.{at_err}
+use Rattle.turn_rules.specs.Round.{Seat, Round, actors, is_over}
+use Rattle.turn_rules.specs.Picks.{Rests, Makes, Replies, MakesAndReplies, Coordinator, WorkerAt, SessionAt, Actor, actor_of, act_of}
+use Rattle.turn_rules.specs.Turns.{seats_after, is_abort_told}
+use Rattle.step_driver.specs.declared.act.Act.{Act}
+use Rattle.step_driver.specs.declared.act.Act.TheVariants as own
+use Rattle.step_driver.specs.Acts.{act_shown, actor_shown, IsThere, HasActed}
+use Rattle.step_driver.specs.Seating.{seats_shown}
+use Rattle.step_driver.specs.Rounds.{ShowsRound}
+use Rattle.step_driver.proofs.Turned.{turned, rests, any_turn, shows_again, stopped_after, less_left}
+use Rattle.step_driver.proofs.Played.{same_over}
+use Rattle.step_driver.proofs.turn.take_turn.Goals as goal
+
+-- a worker that a number names is one of the core's
+there : (c : CoreState) (number : ℕ) → IsThere c (actor_of (length c.workers) number)
+there c number = by_zero (number == 0) refl
+  where
+    by_worker : (number == 0) ≡ false → (b : Bool) → nat_le number (length c.workers) ≡ b → IsThere c (cond b (WorkerAt (number - 1)) (SessionAt (number - length c.workers - 1)))
+    by_worker z true h =
+        let l : number ≤ length c.workers = leb-true number (length c.workers) h in
+        let n : number ≡ 0 → ⊥ = eqb-false number 0 z in
+        omega (arith, n)
+    by_worker z false h = tt
+
+    by_zero : (b : Bool) → (number == 0) ≡ b → IsThere c (cond b Coordinator (cond (nat_le number (length c.workers)) (WorkerAt (number - 1)) (SessionAt (number - length c.workers - 1))))
+    by_zero true h = tt
+    by_zero false h = by_worker h (nat_le number (length c.workers)) refl
+
+-- where nothing is told nobody is told
+none_told : (a : Actor) (seats : List Seat) → seats ≡ seats_after a None seats
+none_told Coordinator seats = refl
+none_told (WorkerAt worker) seats = refl
+none_told (SessionAt place) seats = refl
+
+or_none : (b : Bool) → b ≡ (b || is_abort_told None)
+or_none true = refl
+or_none false = refl
+
+-- only Rest is a rest
+is_rest : (a : Act) → act_shown a ≡ Rests → a ≡ own.Rest
+is_rest own.Rest h = refl
+is_rest (own.Make event) h = let k : Makes event ≡ Rests = h in absurd cc
+is_rest (own.Tell reply) h = let k : Replies reply ≡ Rests = h in absurd cc
+is_rest (own.MakeAndTell event reply) h = let k : MakesAndReplies event reply ≡ Rests = h in absurd cc
+
+on_ok_three : {T E A B C D : Type 0} (r : Result T E) → (A → B → C → D) → OnOk r A → OnOk r B → OnOk r C → OnOk r D
+on_ok_three (Ok x) f a b d = f a b d
+on_ok_three (Err e) f a b d = tt
+
+pub returns-in-Rest-clause-turns : goal.returns-in-Rest-clause-turns
+returns-in-Rest-clause-turns c schedule r s turn =
+    let known = c.args.dictionary.now in
+    let core = c.args.core.now in
+    let seats = c.args.seats.now in
+    let number = c.args.number in
+    let goes_on : is_over r ≡ false = same_over known core seats r c.requires.round.round s c.requires.round.shows ∙ c.requires.round.goes_on in
+    let named : actor_shown c.numbered-actor.result ≡ actor_of (length r.core.workers) number = c.numbered-actor.ensures.is ∙ ap (λ w. actor_of w number) (c.workers.ensures r.core s.core) in
+    let picked : act_shown c.in_ok-act.act ≡ act_of r (actor_of (length r.core.workers) number) =
+    c.in_ok-act.ensures known r s (subst (IsThere r.core) (sym named) (there r.core number)) ∙ ap (act_of r) named in
+    let rest : Rests ≡ act_of r (actor_of (length r.core.workers) number) = sym (ap act_shown c.in-Rest.is) ∙ picked in
+    turned known core core seats seats schedule r number None s goes_on turn (subst (λ a. HasActed core r.core a None) rest (rests core r.core s.core))
+    (none_told (actor_of (length r.core.workers) number) (seats_shown seats)) s.counted (or_none seats.aborted)
+
+pub returns-in-Rest-clause-acts : goal.returns-in-Rest-clause-acts
+returns-in-Rest-clause-acts c = inl (record {
+  core = refl;
+  seats = refl;
+  rests = λ r s.
+      let known = c.args.dictionary.now in
+      let number = c.args.number in
+      let named : actor_shown c.numbered-actor.result ≡ actor_of (length r.core.workers) number = c.numbered-actor.ensures.is ∙ ap (λ w. actor_of w number) (c.workers.ensures r.core s.core) in
+      let picked : act_shown c.in_ok-act.act ≡ act_of r (actor_of (length r.core.workers) number) =
+      c.in_ok-act.ensures known r s (subst (IsThere r.core) (sym named) (there r.core number)) ∙ ap (act_of r) named in
+      sym picked ∙ ap act_shown c.in-Rest.is;
+})
+
+pub returns : goal.returns
+returns c =
+    let known = c.args.dictionary.now in
+    let core = c.args.core.now in
+    let was = c.args.seats.now in
+    let new = c.act_out.new.core in
+    let seats = c.take_up.new.seats in
+    let number = c.args.number in
+    let told = c.in_ok-told.told in
+    let w = c.requires.round.round in
+    let named : (r : Round) → ShowsRound known core was r → actor_shown c.numbered-actor.result ≡ actor_of (length r.core.workers) number =
+    λ r s. c.numbered-actor.ensures.is ∙ ap (λ n. actor_of n number) (c.workers.ensures r.core s.core) in
+    let picked : (r : Round) → ShowsRound known core was r → act_shown c.in_ok-act.act ≡ act_of r (actor_of (length r.core.workers) number) =
+    λ r s. c.in_ok-act.ensures known r s (subst (IsThere r.core) (sym (named r s)) (there r.core number)) ∙ ap (act_of r) (named r s) in
+    let acted : (r : Round) → ShowsRound known core was r → HasActed new r.core (act_of r (actor_of (length r.core.workers) number)) told =
+    λ r s. subst (λ a. HasActed new r.core a told) (picked r s) (c.in_ok-told.ensures.ok r.core s.core s.known) in
+    let goes_on : (r : Round) → ShowsRound known core was r → is_over r ≡ false = λ r s. same_over known core was r w s c.requires.round.shows ∙ c.requires.round.goes_on in
+    record {
+      turns = on_ok_three c.take_up.result (λ row counted aborted schedule r s turn.
+          turned known core new was seats schedule r number told s (goes_on r s) turn (acted r s) (row ∙ ap (λ a. seats_after a told (seats_shown was)) (named r s)) counted aborted)
+          c.take_up.ensures.seats c.take_up.ensures.counted c.take_up.ensures.aborted;
+      acts = on_ok_three c.take_up.result (λ row counted aborted.
+          let s = c.requires.round.shows in
+          let within : number < actors w = (c.requires.actor w s).within in
+          let q : Round = record w { turns = 0 } in
+          let t = shows_again known core was w 0 s in
+          inr (less_left known core new was seats w number s within (λ e. c.in_default.not-Rest (is_rest c.in_ok-act.act (picked w s ∙ e)))
+          (turned known core new was seats (number ∷ []) q number told t (goes_on q t) (any_turn w number within) (acted q t) (row ∙ ap (λ a. seats_after a told (seats_shown was)) (named q t)) counted aborted)))
+          c.take_up.ensures.seats c.take_up.ensures.counted c.take_up.ensures.aborted;
+      err = at_err c.take_up.result (λ r s. stopped_after new r number told s.stands (goes_on r s) (c.requires.actor r s).within (acted r s));
+    }

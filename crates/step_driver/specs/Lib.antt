@@ -1,0 +1,5 @@
+pub mod Acts
+pub mod Seating
+pub mod Work
+pub mod Rounds
+pub mod Delivered
