@@ -15,8 +15,6 @@ pub mod placed;
 pub mod row;
 pub mod shard;
 pub mod steps;
-#[cfg(test)]
-mod tests;
 pub mod text;
 pub mod value;
 pub mod value_ref;

@@ -8,6 +8,4 @@ pub mod memory_sink;
 pub mod memory_source;
 pub mod outside;
 pub mod standard;
-#[cfg(test)]
-mod tests;
 pub mod transfer;

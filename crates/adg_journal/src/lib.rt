@@ -4,8 +4,6 @@
 pub mod area;
 mod noted;
 mod places;
-#[cfg(test)]
-mod tests;
 
 pub use adg_base::address::AddrList;
 pub use area::Area;

@@ -10,5 +10,3 @@ pub mod laws;
 pub mod mined;
 pub mod plain;
 pub mod record;
-#[cfg(test)]
-mod tests;

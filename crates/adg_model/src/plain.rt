@@ -102,6 +102,3 @@ fn populated(alloc: Global, entries: &[LogEntry], obj: Obj, q: Scn) -> Result<Pl
         Some(_) => Ok(PlainReply::NotInMemory),
     }
 }
-
-#[cfg(test)]
-mod tests;

@@ -6,8 +6,6 @@ ghost use Rattle.adg_model.specs.Reply.{lines_bytes, line_bytes, end_line_bytes}
 
 mod cell;
 mod reply;
-#[cfg(test)]
-mod tests;
 
 use crate::reply::push_reply;
 use adg_base::answer::{Line, Lines};

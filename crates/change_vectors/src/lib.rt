@@ -7,8 +7,6 @@ pub mod law;
 pub mod read;
 pub mod refused;
 mod size;
-#[cfg(test)]
-mod tests;
 mod unread;
 mod value;
 mod vector;

@@ -5,5 +5,3 @@
 pub mod bounds;
 pub mod column;
 pub mod columns;
-#[cfg(test)]
-mod tests;

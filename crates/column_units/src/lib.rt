@@ -4,6 +4,4 @@
 
 mod marks;
 pub mod shard;
-#[cfg(test)]
-mod tests;
 pub mod unit;

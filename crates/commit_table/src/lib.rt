@@ -2,8 +2,6 @@
 #![tactic(auto)]
 
 pub mod partition;
-#[cfg(test)]
-mod tests;
 
 pub use adg_base::node::{Node, NodeKind, NodeList};
 pub use partition::Partition;

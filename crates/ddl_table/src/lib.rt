@@ -2,8 +2,6 @@
 #![tactic(auto)]
 
 pub mod table;
-#[cfg(test)]
-mod tests;
 
 pub use adg_base::node::{DdlList, DdlNode};
 pub use table::DdlTable;

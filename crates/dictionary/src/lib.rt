@@ -10,8 +10,6 @@ mod objects;
 mod pending;
 mod refused;
 mod row;
-#[cfg(test)]
-mod tests;
 mod transactions;
 
 pub use dictionary::Dictionary;

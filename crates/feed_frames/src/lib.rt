@@ -15,6 +15,3 @@ mod tag;
 
 pub use adg_model::delivery::{PieceList, RawDelivery, RedoPiece};
 pub use adg_model::fault::FeedKind;
-
-#[cfg(test)]
-mod tests;

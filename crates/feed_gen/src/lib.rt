@@ -13,8 +13,6 @@ mod record;
 mod second;
 mod source;
 mod table;
-#[cfg(test)]
-mod tests;
 mod transfer;
 mod writer;
 mod writing;

@@ -16,8 +16,6 @@ pub mod reason;
 mod record;
 pub mod refused;
 pub mod show;
-#[cfg(test)]
-mod tests;
 mod text;
 pub mod top;
 mod unread;

@@ -7,6 +7,4 @@ pub mod reader;
 pub mod scan;
 pub mod shard_reader;
 pub mod sink;
-#[cfg(test)]
-mod tests;
 pub mod wide_row;

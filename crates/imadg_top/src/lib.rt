@@ -2,8 +2,6 @@
 #![tactic(auto)]
 
 mod kept;
-#[cfg(test)]
-mod tests;
 mod top;
 mod words;
 

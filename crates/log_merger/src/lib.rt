@@ -7,8 +7,6 @@ mod mark;
 mod merge;
 mod merger;
 mod refused;
-#[cfg(test)]
-mod tests;
 mod thread;
 
 pub use merger::Merger;

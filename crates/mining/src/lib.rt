@@ -2,8 +2,6 @@
 #![tactic(auto)]
 
 mod miner;
-#[cfg(test)]
-mod tests;
 
 pub use adg_model::mined::Mined;
 pub use miner::mine;

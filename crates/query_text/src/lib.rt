@@ -13,6 +13,4 @@ pub mod read;
 pub mod refused;
 mod select;
 mod tail;
-#[cfg(test)]
-mod tests;
 mod word;

@@ -11,6 +11,3 @@ mod record;
 pub use adg_model::fault::FrameKind;
 pub use assembler::Assembler;
 pub use record::{FrameRefused, RawRecord};
-
-#[cfg(test)]
-mod tests;

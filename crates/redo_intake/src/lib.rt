@@ -4,8 +4,6 @@
 
 mod intake;
 mod refused;
-#[cfg(test)]
-mod tests;
 
 pub use intake::RedoIntake;
 pub use refused::IntakeRefused;

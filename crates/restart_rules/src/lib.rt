@@ -2,7 +2,5 @@
 #![tactic(auto)]
 
 mod rewinding;
-#[cfg(test)]
-mod tests;
 
 pub use rewinding::{complete, rewind};

@@ -7,6 +7,4 @@ pub mod law;
 pub mod pick;
 pub mod shard;
 pub mod shards;
-#[cfg(test)]
-mod tests;
 pub mod version;

@@ -10,5 +10,3 @@ mod key_index;
 mod seen;
 pub mod select;
 mod tally;
-#[cfg(test)]
-mod tests;

@@ -4,5 +4,3 @@
 
 pub mod has_scn;
 pub mod queue;
-#[cfg(test)]
-mod tests;

@@ -10,8 +10,6 @@ mod round;
 pub mod seat;
 pub mod seats;
 mod session;
-#[cfg(test)]
-mod tests;
 mod turn;
 
 pub use delivery::run_delivery;

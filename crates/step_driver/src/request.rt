@@ -18,7 +18,7 @@ pub enum Request {
 
 impl Request {
     /// What a text asks.
-    pub(crate) fn read(alloc: Global, text: &[u8]) -> Result<Request, Memory>
+    pub fn read(alloc: Global, text: &[u8]) -> Result<Request, Memory>
         requires { length text.now < 2 ^ 32 }
         ensures { IfOk result (λ request. Reads text.now (request_shown request)) }
     {

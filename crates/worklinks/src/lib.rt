@@ -4,8 +4,6 @@
 
 mod chopping;
 pub mod collected;
-#[cfg(test)]
-mod tests;
 pub mod worklink;
 
 pub use adg_base::node::{DdlNode, Item, ItemList, Node, NodeKind};

@@ -1,4 +1,0 @@
-use Rattle.hybrid_scan.proofs.tests.scans_are_the_committed_rows.Given as goal
-
-abbrev pub ghosts-assert_cases : goal.ghosts-assert_cases
-ghosts-assert_cases g a = record { name = a.blank.name; parts = a.blank.parts }

@@ -1,4 +1,0 @@
-use Rattle.row_blocks.proofs.tests.picks_committed_rows.Given as goal
-
-abbrev pub ghosts-assert_rows : goal.ghosts-assert_rows
-ghosts-assert_rows g a = record { name = a.blank.name; parts = a.blank.parts }
