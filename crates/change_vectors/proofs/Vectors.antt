@@ -7,7 +7,7 @@ use Rattle.adg_base.specs.declared.value.Value.{Value}
 use Rattle.adg_base.specs.declared.vector.Vector.{Vector}
 use Rattle.adg_base.specs.declared.vector.Vector.TheVariants.{Begin, Put, Delete, Undo, Commit, Abort, Create, DropObject, AddColumn, NoInMemory, EndThread}
 use Rattle.adg_model.specs.Spelling.{row_bytes, txn_bytes, obj_bytes, change_bytes, vector_bytes, IsTxn, IsObj, IsRow, IsChange, IsCreate, IsVector}
-use Rattle.change_vectors.specs.declared.field.Change.{Change}
+use Rattle.change_vectors.specs.declared.change.Change.{Change}
 use Rattle.change_vectors.specs.Reading.{◌>>=◌, byte_at, number_at, flag_at, kind_at, change_at, row_at, columns_at, begin_at, put_at, delete_at, undo_at, commit_at, abort_at, extents_at, create_at, drop_object_at, add_column_at, no_in_memory_at, end_at, fields_at, vector_at}
 use Rattle.adg_model.specs.Records.{IsByte}
 use Rattle.adg_model.proofs.Bytes.{IsBytes}

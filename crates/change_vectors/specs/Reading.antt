@@ -11,7 +11,7 @@ use Rattle.adg_base.specs.declared.vector.Vector.TheVariants.{Begin, Put, Delete
 use Rattle.change_vectors.specs.declared.unread.Unread.{Unread}
 use Rattle.change_vectors.specs.declared.unread.Unspelled.{Unspelled}
 use Rattle.change_vectors.specs.declared.unread.Unread.TheVariants.{Memory, Bad}
-use Rattle.change_vectors.specs.declared.field.Change.{Change}
+use Rattle.change_vectors.specs.declared.change.Change.{Change}
 
 infixl 10 ◌>>=◌
 abbrev pub ◌>>=◌ : {A B : Type 0} → Option A → (A → Option B) → Option B

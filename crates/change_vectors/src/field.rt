@@ -4,20 +4,12 @@ ghost use Rattle.std.specs.Prelude.{◌≡◌};
 ghost use Rattle.std.specs.Int.{w16, w64};
 ghost use Rattle.change_vectors.specs.Reading.{Finds, byte_at, number_at, not_zero, flag_at, kind_at, change_at, width_at, extents_at};
 
+use crate::change::Change;
 use crate::unread::Unspelled;
 use adg_base::definition::{MOST_COLUMNS, MOST_EXTENTS};
 use adg_base::number::{Obj, Txn};
 use adg_base::value::ColKind;
 use byteorder::{BigEndian, ByteOrder};
-
-/// A transaction, and the address of its change.
-#[derive(Clone, Copy, Debug, PartialEq, Eq)]
-pub struct Change {
-    pub txn: Txn,
-    pub obj: Obj,
-    pub block: u16,
-    pub slot: u8,
-}
 
 /// The byte at the front and the bytes after it; `Unspelled` where there is none.
 pub fn u8_at(bytes: &[u8]) -> Result<(u8, &[u8]), Unspelled>

@@ -2,12 +2,13 @@
 //! record.
 #![tactic(auto)]
 
+pub mod change;
 mod field;
 pub mod law;
 pub mod read;
 pub mod refused;
 mod size;
-mod unread;
+pub mod unread;
 mod value;
 mod vector;
 pub mod write;

@@ -2,7 +2,8 @@
 use Rattle.std.proofs.Common.{◌≡◌, ℕ, ◌+◌, ◌<◌, Bool, true, false, cond, eqb, List, [], ◌∷◌, ◌++◌, length, get_or, take, drop, Option, Some, None, refl, ap, ◌∙◌, sym, append_assoc, add-one, drop-cons}
 use Rattle.std.proofs.lemmas.Bool.{eq-eqb, ne_eqb}
 use Rattle.std.proofs.lemmas.List.{append-nil, take_more}
-use Rattle.feed_text.specs.Reading.{◌>>=◌, cut}
+use Rattle.change_vectors.specs.Reading.{◌>>=◌}
+use Rattle.feed_text.specs.Reading.{cut}
 use Rattle.feed_text.specs.LineReading.{split, onto_first}
 
 -- bytes in front of what is cut

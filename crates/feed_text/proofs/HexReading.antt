@@ -2,7 +2,8 @@
 use Rattle.std.proofs.Common.{◌≡◌, ℕ, List, [], ◌∷◌, ◌++◌, Option, Some, None, refl, sym, ap, ◌∙◌, append_assoc}
 use Rattle.std.specs.Prelude.{replicate}
 use Rattle.std.proofs.lemmas.List.{append-nil}
-use Rattle.feed_text.specs.Reading.{◌>>=◌, cut}
+use Rattle.change_vectors.specs.Reading.{◌>>=◌}
+use Rattle.feed_text.specs.Reading.{cut}
 use Rattle.feed_text.specs.LineReading.{split, run_of, runs_of}
 use Rattle.feed_text.proofs.Cuts.{with_bytes, parts_of, split_cut}
 

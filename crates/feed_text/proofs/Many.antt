@@ -1,9 +1,10 @@
 -- Reading things one after another, as a loop does.
 use Rattle.std.proofs.Common.{◌≡◌, ℕ, suc, ◌-◌, ◌+◌, ◌≤◌, ◌<◌, List, [], ◌∷◌, ◌++◌, Option, Some, None, refl, sym, ap, ◌∙◌, append_assoc, arith}
 use Rattle.std.proofs.lemmas.List.{append-nil}
-use Rattle.feed_text.specs.declared.unread.Unread.{Unread}
-use Rattle.feed_text.specs.declared.unread.Unread.TheVariants.{Memory, Bad}
-use Rattle.feed_text.specs.Reading.{◌>>=◌, Fails, behind, more_at, list_at}
+use Rattle.change_vectors.specs.declared.unread.Unread.{Unread}
+use Rattle.change_vectors.specs.declared.unread.Unread.TheVariants.{Memory, Bad}
+use Rattle.change_vectors.specs.Reading.{◌>>=◌, Fails}
+use Rattle.feed_text.specs.Reading.{behind, more_at, list_at}
 
 -- what was read before, and what is still read
 abbrev pub with_front : {X : Type 0} → List X → Option (List X × List ℕ) → Option (List X × List ℕ)

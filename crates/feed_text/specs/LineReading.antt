@@ -4,7 +4,8 @@ use Rattle.feed_text.specs.declared.line.Line.{Line}
 use Rattle.feed_text.specs.declared.line.Line.TheVariants.{Nothing, Opening, Records, Redo, Command, Schedule, End, Stop, Raw}
 use Rattle.feed_text.specs.declared.reason.Reason.{Reason}
 use Rattle.feed_text.specs.declared.reason.Reason.TheVariants.{NoLine, NoOpening, NoCommand, NoBytes, NoRecords}
-use Rattle.feed_text.specs.Reading.{◌>>=◌, behind, number_at, byte_at, has_digit, record_at, list_at}
+use Rattle.change_vectors.specs.Reading.{◌>>=◌}
+use Rattle.feed_text.specs.Reading.{behind, number_at, byte_at, has_digit, record_at, list_at}
 
 -- the parts of a text between separators
 abbrev pub onto_first : ℕ → List (List ℕ) → List (List ℕ)

@@ -8,29 +8,8 @@ use Rattle.adg_base.specs.declared.value.Value.TheVariants.{Null, Int, Text}
 use Rattle.adg_base.specs.declared.vector.RedoRecord.{RedoRecord}
 use Rattle.adg_base.specs.declared.vector.Vector.{Vector}
 use Rattle.adg_base.specs.declared.vector.Vector.TheVariants.{Begin, Put, Delete, Undo, Commit, Abort, Create, DropObject, AddColumn, NoInMemory, EndThread}
-use Rattle.feed_text.specs.declared.unread.Unread.{Unread}
-use Rattle.feed_text.specs.declared.unread.Unspelled.{Unspelled}
-use Rattle.feed_text.specs.declared.unread.Unread.TheVariants.{Memory, Bad}
-use Rattle.feed_text.specs.declared.field.Change.{Change}
-
-infixl 10 ◌>>=◌
-abbrev pub ◌>>=◌ : {A B : Type 0} → Option A → (A → Option B) → Option B
-(Some x) >>= f = f x
-None >>= f = None
-
--- What a function returned, seen by view, is what reading gives, unless memory ran out.
-abbrev pub Fails : {Y : Type 0} → Unread → Option Y → Type 0
-Fails Memory read = Unit {0}
-Fails Bad read = read ≡ None
-
-abbrev pub Gives : {X Y : Type 0} → (X → Y) → Result X Unread → Option Y → Type 0
-Gives view (Ok x) read = read ≡ Some (view x)
-Gives view (Err e) read = Fails e read
-
--- What a function that takes no memory returned, seen by view, is what reading gives.
-abbrev pub Finds : {X Y : Type 0} → (X → Y) → Result X Unspelled → Option Y → Type 0
-Finds view (Ok x) read = read ≡ Some (view x)
-Finds view (Err e) read = read ≡ None
+use Rattle.change_vectors.specs.Reading.{◌>>=◌, not_zero}
+use Rattle.change_vectors.specs.declared.change.Change.{Change}
 
 -- what stands behind a word that is in front
 abbrev pub behind : List ℕ → List ℕ → Option (List ℕ)
@@ -66,11 +45,6 @@ digits_at limit n (c ∷ text) =
 -- a number up to a limit
 unfoldable pub number_at : ℕ → List ℕ → Option (ℕ × List ℕ)
 number_at limit text = if has_digit text then digits_at limit 0 text else None
-
--- a transaction or an object: a number that is not 0
-abbrev pub not_zero : Option (ℕ × List ℕ) → Option (ℕ × List ℕ)
-not_zero None = None
-not_zero (Some n) = if n.0 == 0 then None else Some n
 
 abbrev pub txn_at : List ℕ → Option (ℕ × List ℕ)
 txn_at text = number_at (2 ^ 64 - 1) text

@@ -9,8 +9,8 @@ use crate::bytes::put_line;
 use crate::read_line::read_line;
 use crate::reason::Reason;
 use crate::refused::{LineRefused, TextRefused};
-use crate::unread::Unread;
 use crate::word::cut;
+use change_vectors::unread::Unread;
 use std::alloc::Global;
 
 /// Adds the bytes of a line of text.

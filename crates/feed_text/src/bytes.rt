@@ -7,9 +7,9 @@ ghost use Rattle.adg_model.specs.Records.{record_bytes, IsRecord};
 ghost use Rattle.feed_text.specs.Lines.{line_bytes, IsGood, Fits};
 
 use crate::line::Line;
-use crate::unread::Unread;
 use adg_base::vector::RedoRecord;
 use change_vectors::refused::WriteRefused;
+use change_vectors::unread::Unread;
 use change_vectors::write::write_record;
 use std::alloc::{AllocError, Global};
 

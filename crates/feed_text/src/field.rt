@@ -1,22 +1,15 @@
 //! The fields of vectors: a reader takes one off the front, and hands on the bytes behind it.
 
 ghost use Rattle.std.specs.Prelude.{◌≡◌};
-ghost use Rattle.feed_text.specs.Reading.{Finds, change_at, flag_at, kind_at};
+ghost use Rattle.change_vectors.specs.Reading.{Finds};
+ghost use Rattle.feed_text.specs.Reading.{change_at, flag_at, kind_at};
 
 use crate::number::{byte_of, two_bytes_of, txn_of};
-use crate::unread::Unspelled;
 use crate::word::behind;
 use adg_base::number::{Obj, Txn};
 use adg_base::value::ColKind;
-
-/// A transaction, and the address of its change.
-#[derive(Clone, Copy, Debug, PartialEq, Eq)]
-pub struct Change {
-    pub txn: Txn,
-    pub obj: Obj,
-    pub block: u16,
-    pub slot: u8,
-}
+use change_vectors::change::Change;
+use change_vectors::unread::Unspelled;
 
 /// The transaction and the address in front, and the bytes behind them.
 #[tactic(auto, unfolding(crate::specs::Reading::change_at))]

@@ -2,12 +2,12 @@
 //! stands more than once.
 
 ghost use Rattle.std.specs.Prelude.{◌≡◌, ◌<◌, ◌++◌, replicate, IfOk, OnOk};
-ghost use Rattle.feed_text.specs.Reading.{Finds, Gives};
+ghost use Rattle.change_vectors.specs.Reading.{Finds, Gives};
 ghost use Rattle.feed_text.specs.LineReading.{hex_value, times_of, run_of, hex_of, runs_of, split};
 
 use crate::number::number_of;
-use crate::unread::{Unread, Unspelled};
 use crate::word::cut;
+use change_vectors::unread::{Unread, Unspelled};
 use std::alloc::{AllocError, Global};
 
 /// The value of a digit.

@@ -18,7 +18,6 @@ pub mod refused;
 pub mod show;
 mod text;
 pub mod top;
-mod unread;
 mod value;
 mod vector;
 mod word;

@@ -1,9 +1,10 @@
 //! Numbers in digits.
 
 ghost use Rattle.std.specs.Prelude.{◌≡◌, ◌≤◌, ◌<◌, ◌+◌, ◌*◌, ◌-◌, ◌^◌, ◌∷◌, false, MatchOption, SomeIff, IfOk, negsuc};
-ghost use Rattle.feed_text.specs.Reading.{Finds, has_digit, number_at, byte_at, two_bytes_at, txn_at};
+ghost use Rattle.change_vectors.specs.Reading.{Finds};
+ghost use Rattle.feed_text.specs.Reading.{has_digit, number_at, byte_at, two_bytes_at, txn_at};
 
-use crate::unread::Unspelled;
+use change_vectors::unread::Unspelled;
 
 /// The value of the digit in front, and the bytes behind it.
 fn digit_of(text: &[u8]) -> Option<(u8, &[u8])>

@@ -2,7 +2,7 @@
 
 ghost use Rattle.std.specs.Prelude.{◌≡◌, Option};
 ghost use Rattle.feed_text.specs.declared.line.Line.{Line};
-ghost use Rattle.feed_text.specs.Reading.{Gives};
+ghost use Rattle.change_vectors.specs.Reading.{Gives};
 ghost use Rattle.feed_text.specs.LineReading.{opening_of, command_of, redo_of, schedule_of, raw_of, records_of, alone, or_reason, other_line, worded_line, line_of};
 ghost use Rattle.feed_text.specs.Outcome.{Says};
 
@@ -12,9 +12,9 @@ use crate::number::byte_of;
 use crate::reason::Reason;
 use crate::record::some_records;
 use crate::refused::LineRefused;
-use crate::unread::Unread;
 use crate::word::behind;
 use adg_base::list::{Bytes, List};
+use change_vectors::unread::Unread;
 use std::alloc::Global;
 
 #[tactic(auto, unfolding(crate::specs::LineReading::opening_of))]

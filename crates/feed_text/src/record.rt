@@ -1,15 +1,16 @@
 //! Records: the vectors of each, and several in one frame.
 
 ghost use Rattle.std.specs.Prelude.{◌≡◌, codes, length};
-ghost use Rattle.feed_text.specs.Reading.{Gives, vector_at, vectors_at, record_at, list_at};
+ghost use Rattle.change_vectors.specs.Reading.{Gives};
+ghost use Rattle.feed_text.specs.Reading.{vector_at, vectors_at, record_at, list_at};
 
 use crate::number::number_of;
-use crate::unread::Unread;
 use crate::vector::vector_of;
 use crate::word::behind;
 use adg_base::list::List;
 use adg_base::number::Scn;
 use adg_base::vector::{RedoRecord, Vector};
+use change_vectors::unread::Unread;
 use std::alloc::Global;
 
 /// The most vectors behind the first.

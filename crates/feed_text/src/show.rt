@@ -10,8 +10,8 @@ use crate::frame::line_in;
 use crate::line_text::{put_line_text, put_raw};
 use crate::read_line::read_line;
 use crate::refused::LineRefused;
-use crate::unread::Unread;
 use adg_base::memory::Memory;
+use change_vectors::unread::Unread;
 use feed_frames::fault::FeedFault;
 use std::alloc::{AllocError, Global};
 

@@ -1,14 +1,15 @@
 //! The values of a row and the kinds of an object's columns.
 
 ghost use Rattle.std.specs.Prelude.{◌≡◌, codes};
-ghost use Rattle.feed_text.specs.Reading.{Finds, Gives, text_at, negative_at, positive_at, value_at, kind_at, more_at, list_at, bracketed_at};
+ghost use Rattle.change_vectors.specs.Reading.{Finds, Gives};
+ghost use Rattle.feed_text.specs.Reading.{text_at, negative_at, positive_at, value_at, kind_at, more_at, list_at, bracketed_at};
 
 use crate::field::kind_of;
 use crate::number::{negative_of, number_of};
-use crate::unread::{Unread, Unspelled};
 use crate::word::{behind, cut};
 use adg_base::text::{Text, TextRefused};
 use adg_base::value::{ColKind, Value};
+use change_vectors::unread::{Unread, Unspelled};
 use std::alloc::Global;
 
 /// The most values or kinds behind the first.

@@ -1,17 +1,18 @@
 //! The vectors of a record.
 
 ghost use Rattle.std.specs.Prelude.{◌≡◌, codes};
-ghost use Rattle.feed_text.specs.Reading.{Finds, Gives, begin_at, put_at, delete_at, undo_at, commit_at, abort_at, create_at, drop_object_at, add_column_at, no_in_memory_at, definition_at, vector_at};
+ghost use Rattle.change_vectors.specs.Reading.{Finds, Gives};
+ghost use Rattle.feed_text.specs.Reading.{begin_at, put_at, delete_at, undo_at, commit_at, abort_at, create_at, drop_object_at, add_column_at, no_in_memory_at, definition_at, vector_at};
 
 use crate::field::{change_of, flag_of, kind_of};
 use crate::number::{two_bytes_of, txn_of};
-use crate::unread::{Unread, Unspelled};
 use crate::value::{columns_of, row_of};
 use crate::word::behind;
 use adg_base::list::List;
 use adg_base::number::{Obj, Txn};
 use adg_base::row::Row;
 use adg_base::vector::Vector;
+use change_vectors::unread::{Unread, Unspelled};
 use std::alloc::Global;
 
 #[tactic(auto, unfolding(crate::specs::Reading::begin_at))]

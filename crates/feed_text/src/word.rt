@@ -2,9 +2,10 @@
 
 ghost use Rattle.std.specs.Prelude.{◌≡◌, ◌≤◌, ◌<◌, length, IfSome};
 ghost use Rattle.std.specs.Option.{option_map};
-ghost use Rattle.feed_text.specs.Reading.{Finds, behind, cut};
+ghost use Rattle.change_vectors.specs.Reading.{Finds};
+ghost use Rattle.feed_text.specs.Reading.{behind, cut};
 
-use crate::unread::Unspelled;
+use change_vectors::unread::Unspelled;
 
 /// The bytes behind a word; `Unspelled` where the text does not begin with it.
 pub fn behind<'a>(word: &[u8], text: &'a [u8]) -> Result<&'a [u8], Unspelled>

@@ -1,44 +1,11 @@
 //! The program `imadg`: it answers the feed on standard input to standard output.
 #![tactic(auto)]
 
-ghost use Rattle.std.specs.Prelude.{◌≡◌, drop};
-ghost use Rattle.std.specs.Process.{exit_status};
-
 use adg_io::gate::OpenGate;
 use adg_io::standard::{StdSink, StdSource};
+use command_line::{arguments, exit_code, words};
 use imadg_top::{Status, standby};
-use std::alloc::{AllocError, Global};
-use std::env;
-use std::io::ErrorKind;
 use std::process::ExitCode;
-use std::rt::Env;
-
-/// The arguments, the program's name first. Where one of them is no UTF-8 there are none: neither is
-/// an accepted line.
-fn arguments<H: Env + Alloc<A = Global>>(rt: &H) -> Result<Vec<String>, AllocError> {
-    match env::args(rt) {
-        Ok(arguments) => arguments.collect(rt.alloc()),
-        Err(error) if error.kind() == ErrorKind::OutOfMemory => Err(AllocError),
-        Err(_) => Ok(Vec::new(rt.alloc())),
-    }
-}
-
-/// The words of the command line: the arguments without the program's name.
-fn words(arguments: &[String]) -> &[String]
-    ensures { result.now ≡ drop 1 arguments.now }
-{
-    match arguments {
-        [] => arguments,
-        [_name, words @ ..] => words,
-    }
-}
-
-/// What the system is told of a status.
-fn exit_code(status: u8) -> ExitCode
-    ensures { exit_status result ≡ status }
-{
-    ExitCode::from(status)
-}
 
 fn main(rt: HostRuntime) -> ExitCode {
     let Ok(arguments) = arguments(&rt) else {

@@ -1,6 +1,6 @@
 use Rattle.std.proofs.Common.{codes}
 use Rattle.std.proofs.lemmas.Result.{err_from_is_err_and}
-use Rattle.feed_text.specs.declared.unread.Unread.TheVariants.{Bad}
+use Rattle.change_vectors.specs.declared.unread.Unread.TheVariants.{Bad}
 use Rattle.feed_text.specs.Reading.{kind_at, list_at}
 use Rattle.feed_text.proofs.Many.{begins, none_begins, goes_on, ends, stops, is_done}
 use Rattle.feed_text.proofs.value.kinds_of.Goals as goal
