@@ -1,5 +1,5 @@
 -- Reading from left to right: what stands in front, and the bytes behind it.
-use Rattle.std.specs.Prelude.{◌≡◌, ℕ, pos, negsuc, zero, suc, ◌+◌, ◌-◌, ◌*◌, ◌^◌, Bool, true, false, List, [], ◌∷◌, Option, Some, None, Result, Ok, Err, nat_le, ◌==◌, ◌&&◌, if◌then◌else◌, codes}
+use Rattle.std.specs.Prelude.{ℕ, pos, negsuc, zero, suc, ◌+◌, ◌-◌, ◌*◌, ◌^◌, Bool, true, false, List, [], ◌∷◌, Option, Some, None, nat_le, ◌==◌, ◌&&◌, if◌then◌else◌, codes}
 use Rattle.adg_base.specs.Text.{is_text}
 use Rattle.adg_base.specs.declared.value.ColKind.{ColKind}
 use Rattle.adg_base.specs.declared.value.ColKind.TheVariants as kind
