@@ -8,4 +8,4 @@ use Rattle.row_blocks.specs.declared.block.Versions.TheVariants as held
 abbrev pub list_of : Versions → List Version
 list_of held.None = []
 list_of (held.One version) = version ∷ []
-list_of (held.Many list) = list.items
+list_of (held.Many list) = list

@@ -1,7 +1,8 @@
 ghost use Rattle.std.specs.Prelude.{◌≡◌, ℕ, ◌<◌, [], ◌∷◌, ◌++◌, IfOk, OnOk, OnErr, slice_index_or};
 ghost use Rattle.row_blocks.specs.Versions.{strike};
-ghost use Rattle.row_blocks.specs.Block.{IsLatest, SetsSlot};
+ghost use Rattle.row_blocks.specs.Block.{SetsSlot};
 
+use crate::several::Several;
 use crate::version::Version;
 use adg_base::memory::Memory;
 use adg_base::number::Txn;
@@ -22,7 +23,7 @@ const ROOM: usize = 4;
 enum Versions {
     None,
     One(Version),
-    Many(Vec<Version>),
+    Many(Several),
 }
 
 /// The versions at an address.
@@ -75,7 +76,7 @@ impl Slot {
                     list.push_reserved(first);
                 }
                 list.push_reserved(version);
-                self.versions = Versions::Many(list);
+                self.versions = Versions::Many(Several::of(list));
             }
             Versions::Many(list) => list.push(version)?,
         }
@@ -89,7 +90,7 @@ impl Slot {
         match &mut self.versions {
             Versions::None => {}
             Versions::One(version) => strike_one(version, txn),
-            Versions::Many(list) => strike_latest(list, txn),
+            Versions::Many(list) => list.strike(txn),
         }
     }
 }
@@ -101,29 +102,6 @@ fn strike_one(version: &mut Version, txn: Txn)
     if version.txn == txn && !version.struck {
         version.struck = true;
     }
-}
-
-/// Strikes the latest version of a transaction that is not struck.
-fn strike_latest(versions: &mut [Version], txn: Txn)
-    ensures { versions.new ≡ strike txn versions.old }
-{
-    if let Some(index) = latest(versions, txn) {
-        versions[index].struck = true;
-    }
-}
-
-/// Where the latest version of a transaction is that is not struck. It looks from the latest version
-/// back.
-fn latest(versions: &[Version], txn: Txn) -> Option<usize>
-    ensures { IsLatest txn versions.now result }
-{
-    for index in (0..versions.len()).rev() {
-        let version = &versions[index];
-        if version.txn == txn && !version.struck {
-            return Some(index);
-        }
-    }
-    None
 }
 
 /// The versions at each of the 64 slots of a block.

@@ -5,6 +5,7 @@
 pub mod block;
 pub mod law;
 pub mod pick;
+mod several;
 pub mod shard;
 pub mod shards;
 pub mod version;
