@@ -1,4 +1,4 @@
-ghost use Rattle.std.specs.Prelude.{◌≡◌, ℕ, ◌/◌, ◌==◌, None, Some, if◌then◌else◌, option_map, option_copied, IfSome, IsSome, OnOk, OnErr};
+ghost use Rattle.std.specs.Prelude.{◌≡◌, ℕ, ◌/◌, ◌==◌, [], None, Some, if◌then◌else◌, option_map, option_copied, IfSome, IsSome, OnOk, OnErr, MatchBool};
 ghost use Rattle.adg_base.specs.Shard.{shard_of_unit};
 ghost use Rattle.column_codec.specs.Extent.{AreColumns};
 ghost use Rattle.column_units.specs.Unit.{IsOf, IsNew, marked_whole};
@@ -49,6 +49,13 @@ impl UnitShard {
         ensures { result ≡ self.now.number }
     {
         self.number
+    }
+
+    /// Whether it has no unit.
+    pub fn is_empty(&self) -> bool
+        ensures { MatchBool result (self.now.entries ≡ []) (self.now.entries ≡ [] → ⊥) }
+    {
+        self.units.is_empty()
     }
 
     /// Puts a unit without columns in the place of any that stands there.

@@ -1,11 +1,11 @@
 -- The addresses of a unit shard, in a list in the order of unit shards.
 use Rattle.std.proofs.Common.{◌≡◌, ℕ, ◌+◌, ◌-◌, ◌<◌, ◌≤◌, min, true, false, leb, ltb, List, length, take, drop, get_or, ◌⊎◌, inl, inr, ◌↔◌, sym, ap, ◌∙◌, arith, length-take, length-drop, get_or-take, get_or-drop}
 use Rattle.std.specs.List.{Contains}
-use Rattle.std.specs.List.Sorted.{IsPartitionPoint}
-use Rattle.std.proofs.lemmas.Bool.{ltb-true, ltb-false, leb-true, leb-false, cases_lt}
+use Rattle.std.specs.List.Sorted.{IsNonDecreasingBy, IsPartitionPoint}
+use Rattle.std.proofs.lemmas.Bool.{ltb-true, ltb-false, leb-true, leb-false, le-leb, lt-leb, cases_lt}
 use Rattle.adg_base.specs.Address.{Place, place}
 use Rattle.standby_core.specs.Links.{shard_of_place}
-use Rattle.standby_core.specs.Touching.{IsInShard}
+use Rattle.standby_core.specs.Touching.{StartsAt, EndsAt, IsInShard}
 
 -- the element at a place of a part
 part_at : (xs : List Place) (base size i : ℕ) (d : Place) → i < size → get_or (take size (drop base xs)) i d ≡ get_or xs (base + i) d
@@ -58,3 +58,22 @@ module _ (xs : List Place) (shard from to : ℕ) (start : from ≤ length xs) (e
               let d : length (drop from xs) ≡ length xs - from = length-drop from xs in
               let r : from + (k - from) ≡ k = omega arith in
               (k - from, omega arith, part_at xs from (to - from) (k - from) a (omega arith) ∙ ap (λ n. get_or xs n a) r ∙ e)
+
+beyond : (a b c : ℕ) → a ≤ b → b ≤ c → (b ≡ a → ⊥) → a < c
+beyond a b c h k n = omega (arith, n)
+
+-- where the first behind the lower shards is of a higher one, the shard ends where it starts
+pub ends_at_once : (shard from : ℕ) (xs : List Place) → IsNonDecreasingBy shard_of_place xs → StartsAt shard xs from
+    → (from < length xs → (a : Place) → shard_of_place (get_or xs from a) ≡ shard → ⊥) → EndsAt shard xs from
+ends_at_once shard from xs order low none = (below, above)
+  where
+    below : (k : ℕ) (a : Place) → 0 ≤ k → k < from → leb (shard_of_place (get_or xs k a)) shard ≡ true
+    below k a z l =
+        let x : shard_of_place (get_or xs k a) < shard = ltb-true (shard_of_place (get_or xs k a)) shard (low.0 k a z l) in
+        le-leb (shard_of_place (get_or xs k a)) shard (omega arith)
+
+    above : (k : ℕ) (a : Place) → from ≤ k → k < length xs → leb (shard_of_place (get_or xs k a)) shard ≡ false
+    above k a l w =
+        let x : shard ≤ shard_of_place (get_or xs from a) = ltb-false (shard_of_place (get_or xs from a)) shard (low.1 from a (omega arith) (omega arith)) in
+        let y : shard_of_place (get_or xs from a) ≤ shard_of_place (get_or xs k a) = order from k a l w in
+        lt-leb (shard_of_place (get_or xs k a)) shard (beyond shard (shard_of_place (get_or xs from a)) (shard_of_place (get_or xs k a)) x y (none (omega arith) a))

@@ -1,8 +1,9 @@
 -- A worklink touches the units of the shard at its cursor.
-use Rattle.std.proofs.Common.{◌≡◌, ℕ, ◌+◌, ◌*◌, ◌/◌, ◌<◌, ◌≤◌, Bool, true, false, cond, ◌==◌, ◌||◌, List, length, Option, Some, None, ◌⊎◌, inl, inr, refl, sym, ap, ◌∙◌, subst, arith, Vec, Global}
+use Rattle.std.proofs.Common.{◌≡◌, ℕ, ◌+◌, ◌*◌, ◌/◌, ◌<◌, ◌≤◌, Bool, true, false, cond, ◌==◌, ◌||◌, List, [], length, Option, Some, None, ◌⊎◌, inl, inr, refl, sym, ap, ◌∙◌, subst, arith, Vec, Global}
 use Rattle.std.specs.Prelude.{slice_get, slice_set}
 use Rattle.std.specs.List.{AllByRecursion}
 use Rattle.std.specs.List.Sorted.{IsNonDecreasingBy}
+use Rattle.std.specs.Map.{lookup}
 use Rattle.std.proofs.lemmas.Bool.{eqb-true, eq-eqb, cases_eq}
 use Rattle.std.proofs.lemmas.List.{length-set}
 use Rattle.adg_base.specs.Address.{Place}
@@ -263,3 +264,14 @@ module _ (core : Core) (c : CoreState) (h : IsState core c) (actor : ℕ) where
             (λ obj extent e. subst (ShowsAny (shards.unit_at u obj extent)) (sym (same obj extent e))
             (any_shown core.worker_count own l.0 l.2 shard obj extent (shards.unit_at t obj extent) (shards.unit_at u obj extent) (c.units obj extent) (was obj extent e) (touch_at obj extent)))
             others)
+
+-- where no unit stands nothing is touched
+pub touches_none : (items : List Item) (lists : List Gathered) (units : shards.Units) → units.entries ≡ [] → TouchesUnits items lists units units
+touches_none items lists units h = record { number = refl; units = λ obj extent. by_unit obj extent (shards.unit_at units obj extent) (none obj extent) }
+  where
+    none : (obj extent : ℕ) → shards.unit_at units obj extent ≡ None
+    none obj extent = ap (λ (entries : List ((ℕ × ℕ) × OwnUnit)). lookup (shards.same_key (obj, extent)) entries) h
+
+    by_unit : (obj extent : ℕ) (o : Option OwnUnit) → o ≡ None → TouchesAny items (IsListed lists units.number) obj extent o o
+    by_unit obj extent None e = refl
+    by_unit obj extent (Some u) e = absurd cc

@@ -1,6 +1,7 @@
 -- What a worklink does to the units of a shard.
-use Rattle.std.specs.Prelude.{◌≡◌, ℕ, ◌/◌, Bool, true, false, ◌||◌, List, Option, Some, None, ◌⊎◌}
+use Rattle.std.specs.Prelude.{◌≡◌, ℕ, ◌/◌, nat_lt, nat_le, Bool, true, false, ◌||◌, List, Option, Some, None, ◌⊎◌}
 use Rattle.std.specs.List.{Contains}
+use Rattle.std.specs.List.Sorted.{IsPartitionPoint}
 use Rattle.adg_base.specs.Address.{Place}
 use Rattle.adg_base.specs.declared.node.Item.{Item}
 use Rattle.worklinks.specs.declared.collected.Collected.{Collected as Gathered}
@@ -35,6 +36,13 @@ GainsAny more whole obj extent (Some u) (Some v) = GainsMarks more whole obj ext
 pub record MarksUnits (more : Place → Type 0) (whole : Bool) (old new : Units) : Type 0 where
   pub number : new.number ≡ old.number
   pub units : (obj extent : ℕ) → GainsAny more whole obj extent (unit_at old obj extent) (unit_at new obj extent)
+
+-- in a list in the order of shards, where a shard starts, and where it ends
+abbrev pub StartsAt : ℕ → List Place → ℕ → Type 0
+StartsAt shard places from = IsPartitionPoint (λ a. nat_lt (shard_of_place a) shard ≡ true) (λ a. nat_lt (shard_of_place a) shard ≡ false) places from
+
+abbrev pub EndsAt : ℕ → List Place → ℕ → Type 0
+EndsAt shard places to = IsPartitionPoint (λ a. nat_le (shard_of_place a) shard ≡ true) (λ a. nat_le (shard_of_place a) shard ≡ false) places to
 
 -- addresses have one, and it is of a shard
 pub record IsInShard (places : List Place) (shard : ℕ) (a : Place) : Type 0 where

@@ -1,4 +1,4 @@
-ghost use Rattle.std.specs.Prelude.{◌≡◌, ◌↔◌, nat_lt, nat_le, false, None, if◌then◌else◌};
+ghost use Rattle.std.specs.Prelude.{◌≡◌, ◌↔◌, ◌≤◌, length, nat_lt, nat_le, false, None, if◌then◌else◌};
 ghost use Rattle.std.specs.List.{Contains, AllByRecursion};
 ghost use Rattle.std.specs.List.Sorted.{IsNonDecreasingBy};
 ghost use Rattle.adg_base.specs.Address.{Place};
@@ -8,7 +8,7 @@ ghost use Rattle.core_rules.specs.declared.event.Event.TheVariants as event;
 ghost use Rattle.core_rules.specs.State.{CoreState, has_coarse, has_drop, is_drop_of};
 ghost use Rattle.standby_core.specs.Links.{shard_of_place, IsReadyList};
 ghost use Rattle.standby_core.specs.Shows.{IsState, HasState, HasStepped};
-ghost use Rattle.standby_core.specs.Touching.{IsInShard, IsListed, MarksUnits, TouchesUnits};
+ghost use Rattle.standby_core.specs.Touching.{StartsAt, EndsAt, IsInShard, IsListed, MarksUnits, TouchesUnits};
 
 use crate::collect::shard_of_addr;
 use crate::link::{Link, Stage};
@@ -48,11 +48,16 @@ impl Core {
 }
 
 impl Link {
-    /// The units of a shard get the marks that the items ask for, or are dropped.
+    /// The units of a shard get the marks that the items ask for, or are dropped. Where there is none
+    /// no address is looked at.
+    #[tactic(auto, using(crate::proofs::Touched::touches_none))]
     fn touch(&self, units: &mut UnitShard)
         requires { AllByRecursion (IsReadyList self.now.items) self.now.collected.lists }
         ensures { TouchesUnits self.now.items self.now.collected.lists units.old units.new }
     {
+        if units.is_empty() {
+            return;
+        }
         mark_lists(self.collected.as_slice(), units);
         mark_wholly(self.items.as_slice(), units);
         drop_objects(self.items.as_slice(), units);
@@ -82,17 +87,41 @@ fn of_shard(addrs: &[Addr], shard: u8) -> &[Addr]
     requires { IsNonDecreasingBy shard_of_place addrs.now }
     ensures { (a : Place) → Contains result.now a ↔ IsInShard addrs.now shard a }
 {
-    let from = addrs.partition_point(
+    let from = start_of(addrs, shard);
+    let to = end_of(addrs, from, shard);
+    &addrs[from..to]
+}
+
+/// How many addresses are of shards below one.
+fn start_of(addrs: &[Addr], shard: u8) -> usize
+    requires { IsNonDecreasingBy shard_of_place addrs.now }
+    ensures within { result ≤ length addrs.now }
+    ensures start { StartsAt shard addrs.now result }
+{
+    addrs.partition_point(
         |addr: &Addr| -> bool
             ensures { result ≡ nat_lt (shard_of_place addr.now) shard }
         { shard_of_addr(*addr) < shard },
-    );
-    let to = addrs.partition_point(
-        |addr: &Addr| -> bool
-            ensures { result ≡ nat_le (shard_of_place addr.now) shard }
-        { shard_of_addr(*addr) <= shard },
-    );
-    &addrs[from..to]
+    )
+}
+
+/// Where the addresses of a shard end that begin at a place. Most lists have none, and then the first
+/// behind the lower shards tells so.
+fn end_of(addrs: &[Addr], from: usize, shard: u8) -> usize
+    requires order { IsNonDecreasingBy shard_of_place addrs.now }
+    requires within { from ≤ length addrs.now }
+    requires start { StartsAt shard addrs.now from }
+    ensures within { result ≤ length addrs.now }
+    ensures end { EndsAt shard addrs.now result }
+{
+    match addrs.get(from) {
+        Some(first) if shard_of_addr(*first) == shard => addrs.partition_point(
+            |addr: &Addr| -> bool
+                ensures { result ≡ nat_le (shard_of_place addr.now) shard }
+            { shard_of_addr(*addr) <= shard },
+        ),
+        _ => from,
+    }
 }
 
 fn mark_each(addrs: &[Addr], units: &mut UnitShard)
