@@ -1,14 +1,16 @@
 -- A turn of the driver is a turn of the rule.
 use Rattle.std.proofs.Common.{◌≡◌, ℕ, ◌+◌, ◌-◌, ◌<◌, ◌≤◌, Bool, true, false, ◌||◌, List, [], ◌∷◌, ◌++◌, length, Option, Some, None, ◌⊎◌, inl, inr, refl, sym, ap, ◌∙◌, subst, arith}
+use Rattle.std.specs.Prelude.{Result, Ok, Err, OnOk}
 use Rattle.std.proofs.Math.Nat.{mod-eq_of_lt}
 use Rattle.adg_base.specs.declared.answer.Reply.{Reply}
 use Rattle.dictionary.specs.Standing.{Known, StandsFor}
+use Rattle.core_rules.specs.declared.event.Event.{Event}
 use Rattle.core_rules.specs.State.{CoreState}
-use Rattle.core_rules.specs.Runs.{Move}
+use Rattle.core_rules.specs.Runs.{Move, Takes}
 use Rattle.standby_core.specs.declared.standby.Core.{Core}
 use Rattle.standby_core.specs.Shows.{IsState}
-use Rattle.turn_rules.specs.Round.{Round, actors, is_over}
-use Rattle.turn_rules.specs.Picks.{Act, Rests, Actor, actor_of, act_of, act_at, number_at}
+use Rattle.turn_rules.specs.Round.{Seat, Round, actors, is_over}
+use Rattle.turn_rules.specs.Picks.{Act, Rests, Makes, Actor, Coordinator, WorkerAt, SessionAt, actor_of, act_of, act_at, number_at}
 use Rattle.turn_rules.specs.Turns.{Acts, seats_after, is_abort_told, TakesTurn}
 use Rattle.turn_rules.specs.Measure.{measure}
 use Rattle.turn_rules.specs.Standing.{RoundIs}
@@ -18,11 +20,29 @@ use Rattle.turn_rules.proofs.Kept.{turns_keep_rounds, rounds_are_runs}
 use Rattle.turn_rules.proofs.CrewKept.{crew_keeps, session_keeps}
 use Rattle.turn_rules.proofs.Falls.{acts_lower_measure}
 use Rattle.step_driver.specs.declared.seats.Seats.{Seats}
-use Rattle.step_driver.specs.Acts.{HasActed}
+use Rattle.step_driver.specs.Acts.{HasTaken, HasActed}
 use Rattle.step_driver.specs.Seating.{seats_shown, IsCounted}
 use Rattle.step_driver.specs.Work.{work_left}
 use Rattle.step_driver.specs.Rounds.{ShowsRound, IsTurnOf, HasTurned, HasStopped}
 use Rattle.step_driver.proofs.Worked.{work_is}
+
+-- where nothing is told nobody is told
+pub none_told : (a : Actor) (seats : List Seat) → seats ≡ seats_after a None seats
+none_told Coordinator seats = refl
+none_told (WorkerAt worker) seats = refl
+none_told (SessionAt place) seats = refl
+
+pub or_none : (b : Bool) → b ≡ (b || is_abort_told None)
+or_none true = refl
+or_none false = refl
+
+pub on_ok_three : {T E A B C D : Type 0} (r : Result T E) → (A → B → C → D) → OnOk r A → OnOk r B → OnOk r C → OnOk r D
+on_ok_three (Ok x) f a b d = f a b d
+on_ok_three (Err e) f a b d = tt
+
+-- an event that was taken
+pub made : (core : Core) (c : CoreState) (event : Event) (told : Option Reply) → HasTaken core c event told → HasActed core c (Makes event) told
+made core c event told h = record { move = Some (Takes event h.answer); next = h.next; acts = (h.answer, refl, h.says, h.steps); is = h.is; precise = h.precise }
 
 -- a turn leaves the log
 pub turn_log : (schedule : List ℕ) (r : Round) (move : Option Move) (next : Round) → RoundIs r → TakesTurn schedule r move next → next.core.log ≡ r.core.log

@@ -1,5 +1,5 @@
 -- What the acts and the actors of the driver are in the turn rule, and what an act makes of a core.
-use Rattle.std.specs.Prelude.{◌≡◌, ℕ, ◌<◌, length, Option}
+use Rattle.std.specs.Prelude.{◌≡◌, ℕ, ◌<◌, length, Option, Some, None}
 use Rattle.adg_base.specs.declared.answer.Reply.{Reply}
 use Rattle.core_rules.specs.declared.event.Event.{Event}
 use Rattle.core_rules.specs.declared.event.CoreAnswer.{CoreAnswer}
@@ -21,6 +21,11 @@ act_shown own.Rest = rule.Rests
 act_shown (own.Make event) = rule.Makes event
 act_shown (own.Tell reply) = rule.Replies reply
 act_shown (own.MakeAndTell event reply) = rule.MakesAndReplies event reply
+
+-- the coordinator and the workers make an event or rest
+abbrev pub crew_shown : Option Event → rule.Act
+crew_shown None = rule.Rests
+crew_shown (Some event) = rule.Makes event
 
 -- the numbers of a worker and of a place leave room for one more
 abbrev pub IsSmall : Actor → Type 0

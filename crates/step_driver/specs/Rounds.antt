@@ -7,7 +7,7 @@ use Rattle.core_rules.specs.Runs.{Move, Leads}
 use Rattle.standby_core.specs.declared.standby.Core.{Core}
 use Rattle.standby_core.specs.Shows.{IsState}
 use Rattle.turn_rules.specs.Round.{Round, actors, is_over}
-use Rattle.turn_rules.specs.Picks.{Rests, Actor, actor_of, act_of, number_at}
+use Rattle.turn_rules.specs.Picks.{Act, Rests, Actor, actor_of, act_of, number_at}
 use Rattle.turn_rules.specs.Turns.{TakesTurn, Plays}
 use Rattle.turn_rules.specs.Standing.{RoundIs}
 use Rattle.turn_rules.specs.Delivery.{IsTaken}
@@ -46,6 +46,14 @@ pub record IsActorOf (number : ℕ) (r : Round) : Type 0 where
 
 abbrev pub IsActor : Known → Core → Seats → ℕ → Type 0
 IsActor known core seats number = (r : Round) → ShowsRound known core seats r → IsActorOf number r
+
+-- an actor is the one of this number in each round that is shown
+abbrev pub IsNamed : Known → Core → Seats → ℕ → Actor → Type 0
+IsNamed known core seats number actor = (r : Round) → ShowsRound known core seats r → actor ≡ actor_of (length r.core.workers) number
+
+-- an act is what the actor of this number does
+abbrev pub IsPicked : Known → Core → Seats → ℕ → Act → Type 0
+IsPicked known core seats number act = (r : Round) → ShowsRound known core seats r → act ≡ act_of r (actor_of (length r.core.workers) number)
 
 -- a turn was taken in a round
 pub record HasTurned (known : Known) (core : Core) (seats : Seats) (schedule : List ℕ) (r : Round) : Type 0 where

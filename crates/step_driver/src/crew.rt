@@ -2,33 +2,32 @@ ghost use Rattle.std.specs.Prelude.{◌≡◌, ◌-◌, ◌<◌, ◌^◌, length
 ghost use Rattle.core_rules.specs.State.{CoreState, Worker as WorkerOf, At};
 ghost use Rattle.turn_rules.specs.Picks.{link_event, coordinator_act, worker_act, flushing_act, calm_act, share_act};
 ghost use Rattle.standby_core.specs.Shows.{IsState};
-ghost use Rattle.step_driver.specs.Acts.{act_shown};
+ghost use Rattle.step_driver.specs.Acts.{crew_shown};
 
-use crate::act::Act;
 use adg_base::shard::UNIT_SHARDS;
 use core_rules::event::Event;
 use standby_core::Core;
 
 /// What the coordinator does.
-pub(crate) fn coordinator(core: &Core) -> Act
-    ensures { (c : CoreState) → IsState core.now c → act_shown result ≡ coordinator_act c }
+pub(crate) fn coordinator(core: &Core) -> Option<Event>
+    ensures { (c : CoreState) → IsState core.now c → crew_shown result ≡ coordinator_act c }
 {
     match core.cursor(0) {
-        Some(cursor) => Act::Make(next_of_link(core.workers(), 0, cursor)),
+        Some(cursor) => Some(next_of_link(core.workers(), 0, cursor)),
         None if core.is_flushing() => flushing(core),
         None => calm(core),
     }
 }
 
 /// What a worker does.
-pub(crate) fn worker(core: &Core, worker: u8) -> Act
+pub(crate) fn worker(core: &Core, worker: u8) -> Option<Event>
     requires { worker < 2 ^ 8 - 1 }
-    ensures { (c : CoreState) → IsState core.now c → worker < length c.workers → act_shown result ≡ worker_act c worker }
+    ensures { (c : CoreState) → IsState core.now c → worker < length c.workers → crew_shown result ≡ worker_act c worker }
 {
     let actor = worker + 1;
     match core.cursor(actor) {
-        Some(cursor) => Act::Make(next_of_link(core.workers(), actor, cursor)),
-        None if core.is_flushing() && core.has_unclaimed() => Act::Make(Event::Claim { actor }),
+        Some(cursor) => Some(next_of_link(core.workers(), actor, cursor)),
+        None if core.is_flushing() && core.has_unclaimed() => Some(Event::Claim { actor }),
         None => at_share(core, worker),
     }
 }
@@ -48,39 +47,39 @@ fn next_of_link(workers: u8, actor: u8, cursor: usize) -> Event
 }
 
 /// What the coordinator does in a flush, where it has no worklink.
-fn flushing(core: &Core) -> Act
-    ensures { (c : CoreState) → IsState core.now c → act_shown result ≡ flushing_act c.links }
+fn flushing(core: &Core) -> Option<Event>
+    ensures { (c : CoreState) → IsState core.now c → crew_shown result ≡ flushing_act c.links }
 {
     if core.has_unclaimed() {
-        Act::Make(Event::Claim { actor: 0 })
+        Some(Event::Claim { actor: 0 })
     } else if core.are_finished() {
-        Act::Make(Event::Publish)
+        Some(Event::Publish)
     } else {
-        Act::Rest
+        None
     }
 }
 
 /// What the coordinator does outside of a flush.
-fn calm(core: &Core) -> Act
-    ensures { (c : CoreState) → IsState core.now c → act_shown result ≡ calm_act c }
+fn calm(core: &Core) -> Option<Event>
+    ensures { (c : CoreState) → IsState core.now c → crew_shown result ≡ calm_act c }
 {
     match core.flush_through() {
-        Some(through) => Act::Make(Event::BeginFlush { through }),
-        None => Act::Rest,
+        Some(through) => Some(Event::BeginFlush { through }),
+        None => None,
     }
 }
 
 /// What a worker does for its share of the log.
-fn at_share(core: &Core, worker: u8) -> Act
-    ensures { (c : CoreState) (w : WorkerOf) → IsState core.now c → At c.workers worker w → act_shown result ≡ share_act c worker (Some w) }
+fn at_share(core: &Core, worker: u8) -> Option<Event>
+    ensures { (c : CoreState) (w : WorkerOf) → IsState core.now c → At c.workers worker w → crew_shown result ≡ share_act c worker (Some w) }
 {
     if let Some(through) = core.ahead(worker) {
-        Act::Make(Event::Raise { worker, through })
+        Some(Event::Raise { worker, through })
     } else if core.has_to_mine(worker) {
-        Act::Make(Event::Mine { worker })
+        Some(Event::Mine { worker })
     } else if core.has_to_apply(worker) {
-        Act::Make(Event::Apply { worker })
+        Some(Event::Apply { worker })
     } else {
-        Act::Rest
+        None
     }
 }

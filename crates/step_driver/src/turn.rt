@@ -1,13 +1,13 @@
-ghost use Rattle.std.specs.Prelude.{◌≡◌, ℕ, ◌||◌, List, OnOk, OnErr, IfOk};
+ghost use Rattle.std.specs.Prelude.{◌≡◌, ℕ, ◌-◌, ◌<◌, ◌^◌, ◌||◌, List, OnOk, OnErr, IfOk};
 ghost use Rattle.core_rules.specs.State.{CoreState};
 ghost use Rattle.dictionary.specs.Standing.{Known, StandsFor};
 ghost use Rattle.turn_rules.specs.Round.{Round};
-ghost use Rattle.turn_rules.specs.Picks.{act_of};
+ghost use Rattle.turn_rules.specs.Picks.{SessionAt, act_of};
 ghost use Rattle.turn_rules.specs.Turns.{seats_after, is_abort_told};
 ghost use Rattle.standby_core.specs.Shows.{IsState, HasState};
-ghost use Rattle.step_driver.specs.Acts.{act_shown, actor_shown, IsSmall, IsThere, HasTaken, HasActed};
+ghost use Rattle.step_driver.specs.Acts.{act_shown, actor_shown, crew_shown, HasTaken, HasActed};
 ghost use Rattle.step_driver.specs.Seating.{seats_shown, IsCounted};
-ghost use Rattle.step_driver.specs.Rounds.{ShowsRound, GoesOn, IsActor, IsTurnOf, HasTurned, RestsOrActs, HasStopped};
+ghost use Rattle.step_driver.specs.Rounds.{ShowsRound, GoesOn, IsActor, IsNamed, IsPicked, IsTurnOf, HasTurned, RestsOrActs, HasStopped};
 
 use crate::act::{Act, Actor};
 use crate::crew::{coordinator, worker};
@@ -36,7 +36,7 @@ fn take_event(
     }
 }
 
-/// Does what an actor has picked. The answer is to be told to the session whose turn it is.
+/// Does an act. The answer is to be told to the session whose turn it is.
 fn act_out(core: &mut Core, act: Act, dictionary: &Dictionary) -> Result<Option<Reply>, Memory>
     requires { HasState core.old }
     ensures ok { IfOk result (λ told. (c : CoreState) → IsState core.old c → StandsFor dictionary.now c.log → HasActed core.new c (act_shown act) told) }
@@ -53,18 +53,14 @@ fn act_out(core: &mut Core, act: Act, dictionary: &Dictionary) -> Result<Option<
     }
 }
 
-/// What an actor does in its turn.
-fn pick(alloc: Global, core: &Core, seats: &Seats, actor: Actor) -> Result<Act, Memory>
-    requires { IsSmall actor }
-    ensures { IfOk result (λ act. (known : Known) (r : Round) → ShowsRound known core.now seats.now r → IsThere r.core (actor_shown actor) → act_shown act ≡ act_of r (actor_shown actor)) }
+/// What a session does in its turn.
+fn pick(alloc: Global, core: &Core, seats: &Seats, place: u8) -> Result<Act, Memory>
+    requires { place < 2 ^ 8 - 1 }
+    ensures { IfOk result (λ act. (known : Known) (r : Round) → ShowsRound known core.now seats.now r → act_shown act ≡ act_of r (SessionAt place)) }
 {
-    match actor {
-        Actor::Coordinator => Ok(coordinator(core)),
-        Actor::Worker(number) => Ok(worker(core, number)),
-        Actor::Session(place) => match seats.at_hand(place) {
-            Some(request) => session(alloc, core, place + 1, request),
-            None => Ok(Act::Rest),
-        },
+    match seats.at_hand(place) {
+        Some(request) => session(alloc, core, place + 1, request),
+        None => Ok(Act::Rest),
     }
 }
 
@@ -87,6 +83,58 @@ fn take_up(seats: &mut Seats, actor: Actor, told: Option<Reply>) -> Result<(), M
     }
 }
 
+/// The coordinator or a worker takes the event that it has picked, if any.
+#[inline(always)]
+fn take_crew_turn(
+    core: &mut Core,
+    seats: &mut Seats,
+    number: usize,
+    actor: Actor,
+    event: Option<Event>,
+    dictionary: &Dictionary,
+) -> Result<(), Memory>
+    requires round { GoesOn dictionary.now core.old seats.old }
+    requires actor { IsActor dictionary.now core.old seats.old number }
+    requires named { IsNamed dictionary.now core.old seats.old number (actor_shown actor) }
+    requires picked { IsPicked dictionary.now core.old seats.old number (crew_shown event) }
+    ensures turns { OnOk result ((schedule : List ℕ) (r : Round) → ShowsRound dictionary.now core.old seats.old r → IsTurnOf schedule r number → HasTurned dictionary.now core.new seats.new schedule r) }
+    ensures acts { OnOk result (RestsOrActs dictionary.now core.old seats.old core.new seats.new number) }
+    ensures err { OnErr result ((r : Round) → ShowsRound dictionary.now core.old seats.old r → HasStopped core.new r.core) }
+{
+    let Some(event) = event else {
+        return Ok(());
+    };
+    let told = take_event(core, event, dictionary)?;
+    take_up(seats, actor, told)
+}
+
+/// The session at a place does what it has picked. It stands by itself, so that the turns of the others
+/// need no room for queries and replies.
+#[inline(never)]
+fn take_session_turn(
+    alloc: Global,
+    core: &mut Core,
+    seats: &mut Seats,
+    number: usize,
+    place: u8,
+    dictionary: &Dictionary,
+) -> Result<(), Memory>
+    requires small { place < 2 ^ 8 - 1 }
+    requires round { GoesOn dictionary.now core.old seats.old }
+    requires actor { IsActor dictionary.now core.old seats.old number }
+    requires named { IsNamed dictionary.now core.old seats.old number (SessionAt place) }
+    ensures turns { OnOk result ((schedule : List ℕ) (r : Round) → ShowsRound dictionary.now core.old seats.old r → IsTurnOf schedule r number → HasTurned dictionary.now core.new seats.new schedule r) }
+    ensures acts { OnOk result (RestsOrActs dictionary.now core.old seats.old core.new seats.new number) }
+    ensures err { OnErr result ((r : Round) → ShowsRound dictionary.now core.old seats.old r → HasStopped core.new r.core) }
+{
+    let act = pick(alloc, core, seats, place)?;
+    if let Act::Rest = &act {
+        return Ok(());
+    }
+    let told = act_out(core, act, dictionary)?;
+    take_up(seats, Actor::Session(place), told)
+}
+
 /// The actor of a number has a turn.
 pub(crate) fn take_turn(
     alloc: Global,
@@ -102,10 +150,17 @@ pub(crate) fn take_turn(
     ensures err { OnErr result ((r : Round) → ShowsRound dictionary.now core.old seats.old r → HasStopped core.new r.core) }
 {
     let actor = Actor::numbered(core.workers(), number);
-    let act = pick(alloc, core, seats, actor)?;
-    if let Act::Rest = &act {
-        return Ok(());
+    match actor {
+        Actor::Coordinator => {
+            let event = coordinator(core);
+            take_crew_turn(core, seats, number, actor, event, dictionary)
+        }
+        Actor::Worker(place) => {
+            let event = worker(core, place);
+            take_crew_turn(core, seats, number, actor, event, dictionary)
+        }
+        Actor::Session(place) => {
+            take_session_turn(alloc, core, seats, number, place, dictionary)
+        }
     }
-    let told = act_out(core, act, dictionary)?;
-    take_up(seats, actor, told)
 }

@@ -7,15 +7,12 @@ use Rattle.core_rules.specs.Runs.{Takes}
 use Rattle.turn_rules.specs.Picks as rule
 use Rattle.standby_core.specs.declared.standby.Core.{Core}
 use Rattle.step_driver.specs.Acts.{act_shown, HasTaken, HasActed}
+use Rattle.step_driver.proofs.Turned.{made}
 use Rattle.step_driver.proofs.turn.act_out.Goals as goal
 
 if_ok : {T E : Type 0} (r : Result T E) (P Q : T → Type 0) → ((x : T) → P x → Q x) → IfOk r P → IfOk r Q
 if_ok (Ok x) P Q f p = f x p
 if_ok (Err e) P Q f p = tt
-
--- an event that was taken
-made : (core : Core) (c : CoreState) (event : Event) (told : Option Reply) → HasTaken core c event told → HasActed core c (rule.Makes event) told
-made core c event told h = record { move = Some (Takes event h.answer); next = h.next; acts = (h.answer, refl, h.says, h.steps); is = h.is; precise = h.precise }
 
 made_and_told : (core : Core) (c : CoreState) (event : Event) (told : Option Reply) (reply : Reply) → HasTaken core c event told → HasActed core c (rule.MakesAndReplies event reply) (Some reply)
 made_and_told core c event told reply h = record { move = Some (Takes event h.answer); next = h.next; acts = (h.answer, refl, refl, h.steps); is = h.is; precise = h.precise }

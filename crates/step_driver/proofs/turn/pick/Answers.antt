@@ -3,8 +3,8 @@ use Rattle.std.specs.Prelude.{Result, Ok, Err, IfOk, slice_get}
 use Rattle.core_rules.specs.State.{Session, At}
 use Rattle.core_rules.proofs.Lists.{at_within, at_exists}
 use Rattle.turn_rules.specs.Round.{Request, Seat, at_hand, Round}
-use Rattle.turn_rules.specs.Picks.{Act, request_act, session_act, act_of}
-use Rattle.step_driver.specs.Acts.{act_shown, actor_shown}
+use Rattle.turn_rules.specs.Picks.{Act, request_act, session_act}
+use Rattle.step_driver.specs.Acts.{act_shown}
 use Rattle.step_driver.specs.Seating.{request_shown, seats_shown, hand_of}
 use Rattle.step_driver.proofs.turn.pick.Goals as goal
 
@@ -25,9 +25,8 @@ session_acts r place request act seated hand does = by_seat (slice_get r.seats p
         does s.0 s.1 ∙ ap (request_act r.core place) h
 
 pub returns-in-Some : goal.returns-in-Some
-returns-in-Some c = if_ok c.session.result _ _ (λ act h known r s there.
-    let place = c.in-Session.place in
+returns-in-Some c = if_ok c.session.result _ _ (λ act h known r s.
+    let place = c.args.place in
     let request = request_shown c.in-Some.request.now in
     let hand : Some request ≡ hand_of (slice_get r.seats place) = c.in-Some.ensures ∙ ap (λ xs. hand_of (slice_get xs place)) s.seats in
-    session_acts r place request (act_shown act) s.stands.seated hand (λ t at. h r.core place t s.core refl at)
-    ∙ sym (ap (λ a. act_of r (actor_shown a)) c.in-Session.is)) c.session.ensures
+    session_acts r place request (act_shown act) s.stands.seated hand (λ t at. h r.core place t s.core refl at)) c.session.ensures

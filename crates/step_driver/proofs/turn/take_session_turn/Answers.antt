@@ -12,34 +12,9 @@ use Rattle.step_driver.specs.declared.act.Act.TheVariants as own
 use Rattle.step_driver.specs.Acts.{act_shown, actor_shown, IsThere, HasActed}
 use Rattle.step_driver.specs.Seating.{seats_shown}
 use Rattle.step_driver.specs.Rounds.{ShowsRound}
-use Rattle.step_driver.proofs.Turned.{turned, rests, any_turn, shows_again, stopped_after, less_left}
+use Rattle.step_driver.proofs.Turned.{none_told, or_none, on_ok_three, turned, rests, any_turn, shows_again, stopped_after, less_left}
 use Rattle.step_driver.proofs.Played.{same_over}
-use Rattle.step_driver.proofs.turn.take_turn.Goals as goal
-
--- a worker that a number names is one of the core's
-there : (c : CoreState) (number : ℕ) → IsThere c (actor_of (length c.workers) number)
-there c number = by_zero (number == 0) refl
-  where
-    by_worker : (number == 0) ≡ false → (b : Bool) → nat_le number (length c.workers) ≡ b → IsThere c (cond b (WorkerAt (number - 1)) (SessionAt (number - length c.workers - 1)))
-    by_worker z true h =
-        let l : number ≤ length c.workers = leb-true number (length c.workers) h in
-        let n : number ≡ 0 → ⊥ = eqb-false number 0 z in
-        omega (arith, n)
-    by_worker z false h = tt
-
-    by_zero : (b : Bool) → (number == 0) ≡ b → IsThere c (cond b Coordinator (cond (nat_le number (length c.workers)) (WorkerAt (number - 1)) (SessionAt (number - length c.workers - 1))))
-    by_zero true h = tt
-    by_zero false h = by_worker h (nat_le number (length c.workers)) refl
-
--- where nothing is told nobody is told
-none_told : (a : Actor) (seats : List Seat) → seats ≡ seats_after a None seats
-none_told Coordinator seats = refl
-none_told (WorkerAt worker) seats = refl
-none_told (SessionAt place) seats = refl
-
-or_none : (b : Bool) → b ≡ (b || is_abort_told None)
-or_none true = refl
-or_none false = refl
+use Rattle.step_driver.proofs.turn.take_session_turn.Goals as goal
 
 -- only Rest is a rest
 is_rest : (a : Act) → act_shown a ≡ Rests → a ≡ own.Rest
@@ -48,10 +23,6 @@ is_rest (own.Make event) h = let k : Makes event ≡ Rests = h in absurd cc
 is_rest (own.Tell reply) h = let k : Replies reply ≡ Rests = h in absurd cc
 is_rest (own.MakeAndTell event reply) h = let k : MakesAndReplies event reply ≡ Rests = h in absurd cc
 
-on_ok_three : {T E A B C D : Type 0} (r : Result T E) → (A → B → C → D) → OnOk r A → OnOk r B → OnOk r C → OnOk r D
-on_ok_three (Ok x) f a b d = f a b d
-on_ok_three (Err e) f a b d = tt
-
 pub returns-in-Rest-clause-turns : goal.returns-in-Rest-clause-turns
 returns-in-Rest-clause-turns c schedule r s turn =
     let known = c.args.dictionary.now in
@@ -59,10 +30,7 @@ returns-in-Rest-clause-turns c schedule r s turn =
     let seats = c.args.seats.now in
     let number = c.args.number in
     let goes_on : is_over r ≡ false = same_over known core seats r c.requires.round.round s c.requires.round.shows ∙ c.requires.round.goes_on in
-    let named : actor_shown c.numbered-actor.result ≡ actor_of (length r.core.workers) number = c.numbered-actor.ensures.is ∙ ap (λ w. actor_of w number) (c.workers.ensures r.core s.core) in
-    let picked : act_shown c.in_ok-act.act ≡ act_of r (actor_of (length r.core.workers) number) =
-    c.in_ok-act.ensures known r s (subst (IsThere r.core) (sym named) (there r.core number)) ∙ ap (act_of r) named in
-    let rest : Rests ≡ act_of r (actor_of (length r.core.workers) number) = sym (ap act_shown c.in-Rest.is) ∙ picked in
+    let rest : Rests ≡ act_of r (actor_of (length r.core.workers) number) = sym (ap act_shown c.in-Rest.is) ∙ c.in_ok-act.ensures known r s ∙ ap (act_of r) (c.requires.named r s) in
     turned known core core seats seats schedule r number None s goes_on turn (subst (λ a. HasActed core r.core a None) rest (rests core r.core s.core))
     (none_told (actor_of (length r.core.workers) number) (seats_shown seats)) s.counted (or_none seats.aborted)
 
@@ -70,13 +38,7 @@ pub returns-in-Rest-clause-acts : goal.returns-in-Rest-clause-acts
 returns-in-Rest-clause-acts c = inl (record {
   core = refl;
   seats = refl;
-  rests = λ r s.
-      let known = c.args.dictionary.now in
-      let number = c.args.number in
-      let named : actor_shown c.numbered-actor.result ≡ actor_of (length r.core.workers) number = c.numbered-actor.ensures.is ∙ ap (λ w. actor_of w number) (c.workers.ensures r.core s.core) in
-      let picked : act_shown c.in_ok-act.act ≡ act_of r (actor_of (length r.core.workers) number) =
-      c.in_ok-act.ensures known r s (subst (IsThere r.core) (sym named) (there r.core number)) ∙ ap (act_of r) named in
-      sym picked ∙ ap act_shown c.in-Rest.is;
+  rests = λ r s. sym (c.in_ok-act.ensures c.args.dictionary.now r s ∙ ap (act_of r) (c.requires.named r s)) ∙ ap act_shown c.in-Rest.is;
 })
 
 pub returns : goal.returns
@@ -89,10 +51,9 @@ returns c =
     let number = c.args.number in
     let told = c.in_ok-told.told in
     let w = c.requires.round.round in
-    let named : (r : Round) → ShowsRound known core was r → actor_shown c.numbered-actor.result ≡ actor_of (length r.core.workers) number =
-    λ r s. c.numbered-actor.ensures.is ∙ ap (λ n. actor_of n number) (c.workers.ensures r.core s.core) in
+    let named = c.requires.named in
     let picked : (r : Round) → ShowsRound known core was r → act_shown c.in_ok-act.act ≡ act_of r (actor_of (length r.core.workers) number) =
-    λ r s. c.in_ok-act.ensures known r s (subst (IsThere r.core) (sym (named r s)) (there r.core number)) ∙ ap (act_of r) (named r s) in
+    λ r s. c.in_ok-act.ensures known r s ∙ ap (act_of r) (named r s) in
     let acted : (r : Round) → ShowsRound known core was r → HasActed new r.core (act_of r (actor_of (length r.core.workers) number)) told =
     λ r s. subst (λ a. HasActed new r.core a told) (picked r s) (c.in_ok-told.ensures.ok r.core s.core s.known) in
     let goes_on : (r : Round) → ShowsRound known core was r → is_over r ≡ false = λ r s. same_over known core was r w s c.requires.round.shows ∙ c.requires.round.goes_on in
