@@ -29,7 +29,7 @@ module _ (options : List (List ℕ)) (j k : Job) (h : HasOptions options j) (i :
       let seed = one_number j.seed k.seed Seed h.seed i.seed in
       let txns = one_number j.txns k.txns Txns h.txns i.txns in
       let workers = one_number j.workers k.workers Workers h.workers i.workers in
-      cc
+      ap (λ (n : ℕ). record j { seed = n }) seed ∙ ap (λ (n : ℕ). record j { seed = k.seed; txns = n }) txns ∙ ap (λ (n : ℕ). record k { workers = n }) workers
 
 pub one_job : (words : List (List ℕ)) (j k : Job) → IsSoakLine words j → IsSoakLine words k → j ≡ k
 one_job [] j k h i = absurd h
