@@ -18,7 +18,7 @@ use Rattle.soak_run.specs.Words.{IsSoakLine}
 use Rattle.soak_run.proofs.OneJob.{one_job}
 use Rattle.std.specs.Mem.{manually_drop_value}
 use Rattle.imadg_top.specs.declared.kept.Kept.{Kept}
-use Rattle.imadg_top.specs.Headline.{Asked, Step, Soak, Nothing, Asks, Headline, IsComplete}
+use Rattle.imadg_top.specs.Headline.{Task, Step, Soak, Usage, Asks, Headline, IsComplete}
 use Rattle.imadg_top.specs.Stepped.{SteppedEnds, SteppedHeadline, IsSteppedComplete}
 use Rattle.imadg_top.specs.Words.{workers_of}
 
@@ -61,12 +61,12 @@ module _ (words : List (List ℕ)) (job : Job) (line : IsSoakLine words job) (so
   pub headline_soak : run.Headline (SoakEnds job.seed job.txns) source source_now sink sink_now outcome → Headline words source source_now sink sink_now outcome
   headline_soak h (Step workers) asks = absurd (other_mode words job workers line asks)
   headline_soak h (Soak other) asks = subst (λ (j : Job). run.Headline (SoakEnds j.seed j.txns) source source_now sink sink_now outcome) (one_job words job other line asks) h
-  headline_soak h Nothing asks = absurd (asks.1 job line)
+  headline_soak h Usage asks = absurd (asks.1 job line)
 
   pub complete_soak : IsSoakComplete sink sink_now outcome → IsComplete words source source_now sink sink_now outcome
   complete_soak h (Step workers) asks = absurd (other_mode words job workers line asks)
   complete_soak h (Soak other) asks = h
-  complete_soak h Nothing asks = tt
+  complete_soak h Usage asks = tt
 
 -- ---- any other line
 
@@ -77,9 +77,9 @@ module _ (words : List (List ℕ)) (none : (job : Job) → IsSoakLine words job 
   pub headline_other : SteppedHeadline words source source_now sink sink_now outcome → Headline words source source_now sink sink_now outcome
   headline_other h (Step workers) asks = subst (λ (o : Option ℕ). run.Headline (SteppedEnds o source.left) source source_now sink sink_now outcome) asks h
   headline_other h (Soak job) asks = absurd (none job asks)
-  headline_other h Nothing asks = subst (λ (o : Option ℕ). run.Headline (SteppedEnds o source.left) source source_now sink sink_now outcome) asks.0 h
+  headline_other h Usage asks = subst (λ (o : Option ℕ). run.Headline (SteppedEnds o source.left) source source_now sink sink_now outcome) asks.0 h
 
   pub complete_other : IsSteppedComplete words source source_now sink sink_now outcome → IsComplete words source source_now sink sink_now outcome
   complete_other h (Step workers) asks = h (some_workers (workers_of words) workers asks)
   complete_other h (Soak job) asks = absurd (none job asks)
-  complete_other h Nothing asks = tt
+  complete_other h Usage asks = tt
