@@ -1,5 +1,7 @@
--- The headline over the words, from what the run of the feed promises.
-use Rattle.std.proofs.Common.{◌≡◌, ℕ, List, Option, Some, sym, subst}
+-- The headline over the words, from what the run of a feed and a realistic run promise.
+use Rattle.std.proofs.Common.{◌≡◌, ◌≢◌, ℕ, List, [], ◌∷◌, Option, Some, None, codes, sym, subst, ◌∙◌}
+use Rattle.adg_model.specs.declared.delivery.RawDelivery.{RawDelivery}
+use Rattle.adg_model.specs.Transcript.{IsTranscript}
 use Rattle.feed_run.specs.declared.outcome.Outcome.{Outcome}
 use Rattle.feed_run.specs.Ending.{RunEnds}
 use Rattle.feed_run.specs.Headline as run
@@ -10,20 +12,74 @@ use Rattle.core_standby.specs.Ran.{RanAll}
 use Rattle.core_standby.specs.Standing.{HasAnswered}
 use Rattle.core_standby.specs.declared.standby.CoreStandby.{CoreStandby}
 use Rattle.core_standby.proofs.RanLaws.{ran_all, ran_none}
+use Rattle.soak_run.specs.declared.words.Job.{Job}
+use Rattle.soak_run.specs.Run.{TellsTranscripts, SoakEnds, IsSoakComplete}
+use Rattle.soak_run.specs.Words.{IsSoakLine}
+use Rattle.soak_run.proofs.OneJob.{one_job}
 use Rattle.std.specs.Mem.{manually_drop_value}
 use Rattle.imadg_top.specs.declared.kept.Kept.{Kept}
-use Rattle.imadg_top.specs.Headline.{Ends, Headline}
+use Rattle.imadg_top.specs.Headline.{Task, Step, Soak, Usage, Asks, Headline, IsComplete}
+use Rattle.imadg_top.specs.Stepped.{SteppedEnds, SteppedHeadline, IsSteppedComplete}
 use Rattle.imadg_top.specs.Words.{workers_of}
 
 -- a standby that is kept has answered what the one inside has
 abbrev pub KeptAnswered : Kept CoreStandby → (workers : ℕ) → Meaning
 KeptAnswered k workers = HasAnswered (manually_drop_value k.standby) workers
 
+-- what was answered was run
+kept_ran : (workers threads sessions : ℕ) (ds : List RawDelivery) (out : List ℕ) → SomeAnswered KeptAnswered workers threads sessions ds out → RanAll workers threads sessions ds out
+kept_ran workers = some_weaker KeptAnswered workers (RanAll workers) (λ k. ran_all (manually_drop_value k.standby) workers) (ran_none workers)
+
 -- the words were accepted and the feed was run
 pub headline_run : (words : List (List ℕ)) (workers : ℕ) → workers_of words ≡ Some workers → (source source_now : SourceView) (sink sink_now : SinkView) (outcome : Outcome)
-    → run.Headline (RunEnds (SomeAnswered KeptAnswered workers) source.left) source source_now sink sink_now outcome → Headline words source source_now sink sink_now outcome
+    → run.Headline (RunEnds (SomeAnswered KeptAnswered workers) source.left) source source_now sink sink_now outcome → SteppedHeadline words source source_now sink sink_now outcome
 headline_run words workers e source source_now sink sink_now outcome h =
-    subst (λ (o : Option ℕ). run.Headline (Ends o source.left) source source_now sink sink_now outcome) (sym e)
+    subst (λ (o : Option ℕ). run.Headline (SteppedEnds o source.left) source source_now sink sink_now outcome) (sym e)
     (headline_weaker (RunEnds (SomeAnswered KeptAnswered workers) source.left) (RunEnds (RanAll workers) source.left)
-    (ends_weaker (SomeAnswered KeptAnswered workers) (RanAll workers) (some_weaker KeptAnswered workers (RanAll workers) (λ k. ran_all (manually_drop_value k.standby) workers) (ran_none workers)) source.left)
+    (ends_weaker (SomeAnswered KeptAnswered workers) (RanAll workers) (kept_ran workers) source.left)
     source source_now sink sink_now outcome h)
+
+-- ---- a legal transcript is told of what was run
+
+pub kept_tells : (workers : ℕ) → TellsTranscripts (SomeAnswered KeptAnswered workers)
+kept_tells workers threads sessions ds out h =
+    let ran = kept_ran workers threads sessions ds out h in
+    record { lines = ran.lines; legal = ran.legal; print = ran.bytes }
+
+-- ---- no line is of both modes
+
+other_mode : (words : List (List ℕ)) (job : Job) (workers : ℕ) → IsSoakLine words job → workers_of words ≡ Some workers → ⊥
+other_mode [] job workers h e = absurd h
+other_mode (mode ∷ []) job workers h e = absurd cc
+other_mode (mode ∷ option ∷ []) job workers h e = absurd cc
+other_mode (mode ∷ name ∷ value ∷ []) job workers h e = absurd cc
+other_mode (mode ∷ name ∷ value ∷ other ∷ more) job workers h e = absurd cc
+
+-- ---- an accepted line of the mode soak
+
+module _ (words : List (List ℕ)) (job : Job) (line : IsSoakLine words job) (source source_now : SourceView) (sink sink_now : SinkView) (outcome : Outcome) where
+  pub headline_soak : run.Headline (SoakEnds job.seed job.txns) source source_now sink sink_now outcome → Headline words source source_now sink sink_now outcome
+  headline_soak h (Step workers) asks = absurd (other_mode words job workers line asks)
+  headline_soak h (Soak other) asks = subst (λ (j : Job). run.Headline (SoakEnds j.seed j.txns) source source_now sink sink_now outcome) (one_job words job other line asks) h
+  headline_soak h Usage asks = absurd (asks.1 job line)
+
+  pub complete_soak : IsSoakComplete sink sink_now outcome → IsComplete words source source_now sink sink_now outcome
+  complete_soak h (Step workers) asks = absurd (other_mode words job workers line asks)
+  complete_soak h (Soak other) asks = h
+  complete_soak h Usage asks = tt
+
+-- ---- any other line
+
+some_workers : (o : Option ℕ) (workers : ℕ) → o ≡ Some workers → o ≢ None
+some_workers o workers e none = absurd cc
+
+module _ (words : List (List ℕ)) (none : (job : Job) → IsSoakLine words job → ⊥) (source source_now : SourceView) (sink sink_now : SinkView) (outcome : Outcome) where
+  pub headline_other : SteppedHeadline words source source_now sink sink_now outcome → Headline words source source_now sink sink_now outcome
+  headline_other h (Step workers) asks = subst (λ (o : Option ℕ). run.Headline (SteppedEnds o source.left) source source_now sink sink_now outcome) asks h
+  headline_other h (Soak job) asks = absurd (none job asks)
+  headline_other h Usage asks = subst (λ (o : Option ℕ). run.Headline (SteppedEnds o source.left) source source_now sink sink_now outcome) asks.0 h
+
+  pub complete_other : IsSteppedComplete words source source_now sink sink_now outcome → IsComplete words source source_now sink sink_now outcome
+  complete_other h (Step workers) asks = h (some_workers (workers_of words) workers asks)
+  complete_other h (Soak job) asks = absurd (none job asks)
+  complete_other h Usage asks = tt

@@ -1,12 +1,12 @@
 -- What is asked in the last delivery of the generated feed.
-use Rattle.std.proofs.Common.{◌≡◌, ℕ, zero, suc, ◌+◌, ◌<◌, ◌≤◌, ◌==◌, Bool, true, false, cond, List, [], ◌∷◌, ◌++◌, length, map, Some, None, refl, sym, ap, ap₂, ◌∙◌, arith, append_assoc, append-nil}
-use Rattle.std.specs.List.{flat_map, filter_map, cons_option, list_any, range_with_len}
+use Rattle.std.proofs.Common.{◌≡◌, ℕ, ◌+◌, ◌≤◌, ◌==◌, Bool, false, cond, List, [], ◌∷◌, ◌++◌, length, map, Some, None, refl, ap, ap₂, ◌∙◌, arith, append-nil}
+use Rattle.std.specs.List.{filter_map, cons_option, list_any, range_with_len}
 use Rattle.adg_base.specs.declared.command.Command.TheVariants as command
 use Rattle.adg_base.specs.declared.command.CommandText.{CommandText}
 use Rattle.adg_model.specs.declared.delivery.RawDelivery.{RawDelivery}
 use Rattle.adg_model.specs.Command.{command_bytes, IsCommand}
 use Rattle.adg_model.specs.Feed.{Item, delivery_of, command_of}
-use Rattle.adg_model.specs.Transcript.{Asked, text_of, texts_of, asked_from, all_asked, is_abort}
+use Rattle.adg_model.specs.Transcript.{texts_of, asked_from, all_asked, is_abort}
 use Rattle.feed_gen.specs.declared.writing.Writing.{Writing}
 use Rattle.feed_gen.specs.declared.second.Kept.{Kept}
 use Rattle.feed_gen.specs.declared.bank.Bank.{Bank}

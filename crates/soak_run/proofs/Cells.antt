@@ -7,13 +7,12 @@ use Rattle.std.specs.declared.cmp.Ordering.TheVariants.{Less, Equal, Greater}
 use Rattle.adg_base.specs.Address.{Place}
 use Rattle.adg_base.specs.Values.{value_cmp, cell_of}
 use Rattle.adg_base.specs.declared.answer.Cell.{Cell}
-use Rattle.adg_base.specs.declared.command.Aggregate.{Aggregate}
 use Rattle.adg_base.specs.declared.command.Aggregate.TheVariants.{Count, Sum}
 use Rattle.adg_base.specs.declared.log.LogEntry.{LogEntry}
 use Rattle.adg_base.specs.declared.value.Value.{Value}
 use Rattle.adg_base.specs.declared.value.Value.TheVariants.{Null, Int, Text}
 use Rattle.adg_model.specs.Database.{Rows, Table, no_database, rows_at, table_at}
-use Rattle.adg_model.specs.Query.{meets, padded, value_in, values_in, sum_cell, by_order, with_key, keys_of, rows_with, group_lines, aggregate_cells, object_places, object_rows, table_rows, filtered, answer_of, has_columns, has_types}
+use Rattle.adg_model.specs.Query.{meets, padded, value_in, values_in, sum_cell, by_order, with_key, keys_of, rows_with, aggregate_cells, object_places, object_rows, table_rows, filtered, answer_of, has_columns, has_types}
 use Rattle.adg_model.specs.Sound.{SoundFrom}
 use Rattle.adg_model.specs.Spelling.{IsValue}
 use Rattle.soak_run.specs.Summary.{balances_of, answer_over, answer_at}

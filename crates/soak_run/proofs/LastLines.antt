@@ -6,7 +6,7 @@ use Rattle.adg_base.specs.declared.answer.Lines.{Lines}
 use Rattle.adg_base.specs.declared.vector.RedoRecord.{RedoRecord}
 use Rattle.adg_model.specs.declared.delivery.RawDelivery.{RawDelivery}
 use Rattle.adg_model.specs.Log.{frontier, merged_log, ReceivedFrom}
-use Rattle.adg_model.specs.Reply.{at_scn, newline, line_bytes, end_line_bytes, lines_bytes}
+use Rattle.adg_model.specs.Reply.{at_scn, newline, line_bytes, lines_bytes}
 use Rattle.adg_model.specs.Transcript.{LegalFrom, IsLegal, printed}
 
 -- ---- the last lines are legal

@@ -1,6 +1,7 @@
 pub mod Options
 pub mod Numbers
 pub mod OptionsRead
+pub mod OneJob
 pub mod Stands
 pub mod Lines
 pub mod LastLines

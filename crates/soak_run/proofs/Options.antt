@@ -1,7 +1,7 @@
 -- Words that give options give them in one way only.
-use Rattle.std.proofs.Common.{◌≡◌, ℕ, ◌+◌, ◌<◌, ◌≤◌, ◌^◌, Bool, true, false, cond, List, [], ◌∷◌, ◌++◌, length, get_or, drop, Option, Some, None, refl, sym, ap, ap₂, ◌∙◌, subst, arith, append_assoc, append-nil}
-use Rattle.std.specs.Prelude.{codes, decimal}
-use Rattle.std.specs.List.{flat_map, filter_map, AllByRecursion, cons_option}
+use Rattle.std.proofs.Common.{◌≡◌, ℕ, ◌<◌, ◌^◌, Bool, true, false, cond, List, [], ◌∷◌, ◌++◌, length, get_or, drop, Option, Some, None, refl, sym, ap, ap₂, ◌∙◌, arith, append_assoc, append-nil}
+use Rattle.std.specs.Prelude.{decimal}
+use Rattle.std.specs.List.{flat_map, AllByRecursion, cons_option}
 use Rattle.std.proofs.lemmas.List.{append_cancel_left, length-append}
 use Rattle.std.proofs.lemmas.Fmt.{decimal_injective}
 use Rattle.soak_run.specs.declared.setting.OptionName.{OptionName}

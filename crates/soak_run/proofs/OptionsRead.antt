@@ -1,15 +1,15 @@
 -- What is known of words as far as their options are read.
-use Rattle.std.proofs.Common.{◌≡◌, ℕ, ◌+◌, ◌-◌, ◌<◌, ◌≤◌, ◌^◌, ◌==◌, Bool, true, false, not, cond, List, [], ◌∷◌, ◌++◌, length, map, take, drop, get_or, Option, Some, None, refl, sym, ap, ap₂, ◌∙◌, subst, arith, append_assoc, append-nil}
-use Rattle.std.specs.Prelude.{codes, decimal, is_some, option_to_list, MatchBool, MatchOption}
-use Rattle.std.specs.List.{flat_map, filter_map, cons_option, AllByRecursion}
-use Rattle.std.proofs.lemmas.List.{length-append, take_all}
+use Rattle.std.proofs.Common.{◌≡◌, ℕ, ◌-◌, ◌≤◌, ◌==◌, Bool, true, false, not, cond, List, [], ◌∷◌, ◌++◌, length, map, take, drop, get_or, Option, Some, None, refl, sym, ap, ap₂, ◌∙◌, subst, arith, append_assoc, append-nil}
+use Rattle.std.specs.Prelude.{codes, is_some, option_to_list, MatchBool, MatchOption}
+use Rattle.std.specs.List.{flat_map, cons_option, AllByRecursion}
+use Rattle.std.proofs.lemmas.List.{take_all}
 use Rattle.std.proofs.lemmas.Grind.{flat_map-append}
 use Rattle.soak_run.specs.declared.setting.OptionName.{OptionName}
 use Rattle.soak_run.specs.declared.setting.OptionName.TheVariants.{Seed, Txns, Workers}
 use Rattle.soak_run.specs.declared.words.Job.{Job}
 use Rattle.soak_run.specs.declared.words.Settings.{Settings}
-use Rattle.soak_run.specs.Words.{name_text, IsNumber, Setting, words_of, setting_words, IsSetting, same_name, number_for, numbers_for, HasOptions, IsSoakLine, IsNoSetting, BeginsWith, given, AddsSetting, AreRead, IsShort, IsFull}
-use Rattle.soak_run.proofs.Options.{SameFront, one_front, words_some, GoesOn, goes_on, number_small}
+use Rattle.soak_run.specs.Words.{IsNumber, Setting, setting_words, IsSetting, same_name, number_for, numbers_for, HasOptions, IsSoakLine, IsNoSetting, BeginsWith, given, AddsSetting, AreRead, IsShort, IsFull}
+use Rattle.soak_run.proofs.Options.{one_front, words_some, GoesOn, goes_on, number_small}
 
 -- ---- names
 

@@ -1,14 +1,14 @@
 -- What is read of lines, one after another.
-use Rattle.std.proofs.Common.{◌≡◌, ℕ, suc, ◌+◌, ◌-◌, ◌<◌, ◌≤◌, ◌==◌, nat_lt, Bool, true, false, cond, List, [], ◌∷◌, ◌++◌, length, take, drop, ◌⊎◌, inl, inr, refl, sym, ap, ap₂, ◌∙◌, subst, arith, append_assoc, append-nil}
-use Rattle.std.specs.Prelude.{codes, decimal, nat_eq}
-use Rattle.std.specs.List.{flat_map, starts_with, ends_with, AllByRecursion}
+use Rattle.std.proofs.Common.{◌≡◌, ℕ, ◌-◌, ◌<◌, nat_lt, Bool, true, false, cond, List, [], ◌∷◌, ◌++◌, length, take, inl, inr, refl, sym, ap, ◌∙◌, arith, append_assoc, append-nil}
+use Rattle.std.specs.Prelude.{codes, nat_eq}
+use Rattle.std.specs.List.{flat_map, ends_with, AllByRecursion}
 use Rattle.std.proofs.lemmas.Bool.Decides.{Decides-eqb, nat_tests}
 use Rattle.std.proofs.lemmas.Slice.Eq.{ends_is}
 use Rattle.std.proofs.lemmas.List.{same_from_push, length-append, take_at}
 use Rattle.adg_base.specs.declared.answer.Cell.{Cell}
 use Rattle.adg_model.specs.Reply.{cells_bytes, result_line_bytes, newline}
 use Rattle.soak_run.specs.Summary.{line_text}
-use Rattle.soak_run.specs.Telling.{Told, answer_mark, synced_mark, synced, with_cells, with_table, after_line, after_lines, lines_in}
+use Rattle.soak_run.specs.Telling.{Told, synced_mark, synced, with_table, after_line, after_lines, lines_in}
 use Rattle.soak_run.proofs.Lines.{IsPlain, IsPlainCell, cells_plain, EndsOtherwise, lines_split, one_line}
 use Rattle.soak_run.proofs.LastLines.{EndsLine}
 

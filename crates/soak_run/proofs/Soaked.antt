@@ -1,6 +1,5 @@
 -- How the run of the generated feed ends.
-use Rattle.std.proofs.Common.{◌≡◌, ◌≢◌, ℕ, ◌+◌, ◌-◌, ◌^◌, ◌<◌, ◌≤◌, Bool, true, false, List, [], ◌∷◌, ◌++◌, length, map, take, drop, min, Option, Some, None, Result, Ok, Err, ◌⊎◌, inl, inr, refl, sym, ap, ap₂, ◌∙◌, subst, arith, append-nil, append_assoc}
-use Rattle.std.specs.Prelude.{IfOk}
+use Rattle.std.proofs.Common.{◌≡◌, ℕ, ◌+◌, ◌^◌, ◌<◌, ◌≤◌, List, [], ◌++◌, length, map, take, drop, Option, Some, None, ◌⊎◌, inl, inr, refl, sym, ap, ◌∙◌, subst, arith, append-nil, append_assoc}
 use Rattle.std.specs.Io.KnownBytes.{Appends, Consumes}
 use Rattle.std.proofs.lemmas.List.{length-append, length-drop, length-take-le, nil_from_length, take_all, take-append-drop}
 use Rattle.adg_io.specs.Faults.{Rose}
@@ -12,8 +11,8 @@ use Rattle.feed_run.specs.declared.outcome.Outcome.{Outcome}
 use Rattle.feed_run.specs.Ending.{Ending, FeedRead, WordsRefused, FeedRefused, RedoRefused, SourceFailed, SinkFailed, NoMemory, status_of, HasEnded, RunEnds}
 use Rattle.feed_run.specs.Headline.{Headline, counted}
 use Rattle.feed_run.specs.Standby.{Meaning}
-use Rattle.feed_run.specs.View.{SourceView, SinkView, source_view, sink_view}
-use Rattle.soak_run.specs.Run.{IsSummed, SoakEnds, IsSoakComplete, WroteText, WroteSome, Offers}
+use Rattle.feed_run.specs.View.{SinkView, source_view, sink_view}
+use Rattle.soak_run.specs.Run.{SoakEnds, IsSoakComplete, WroteText, WroteSome, Offers}
 use Rattle.soak_run.specs.Summary.{IsSummary, soaked}
 
 -- ---- a whole feed that was read is the one that was generated

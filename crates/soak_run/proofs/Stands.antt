@@ -1,5 +1,5 @@
 -- Each value of a row that stands at an SCN has a spelling.
-use Rattle.std.proofs.Common.{◌≡◌, ℕ, ◌==◌, Bool, true, false, cond, List, [], ◌∷◌, filter, nat_le, Option, Some, None, refl}
+use Rattle.std.proofs.Common.{◌≡◌, ℕ, ◌==◌, Bool, true, false, cond, List, [], ◌∷◌, nat_le, Option, Some, None}
 use Rattle.std.specs.List.{AllByRecursion}
 use Rattle.adg_base.specs.Address.{Place, place, same_place}
 use Rattle.adg_base.specs.declared.value.Value.{Value}

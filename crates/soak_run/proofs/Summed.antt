@@ -1,6 +1,6 @@
 -- What is read of a legal transcript of the generated feed is the summary of its run.
-use Rattle.std.proofs.Common.{◌≡◌, ℕ, zero, suc, ◌+◌, ◌<◌, ◌≤◌, ◌==◌, Bool, true, false, cond, List, [], ◌∷◌, ◌++◌, length, map, Option, Some, None, ◌⊎◌, inl, inr, refl, sym, ap, ap₂, ◌∙◌, subst, arith, append_assoc, append-nil}
-use Rattle.std.specs.Prelude.{codes, decimal, count_by}
+use Rattle.std.proofs.Common.{◌≡◌, ℕ, ◌+◌, ◌≤◌, ◌==◌, Bool, true, false, cond, List, [], ◌∷◌, ◌++◌, length, map, Some, None, ◌⊎◌, inl, inr, refl, sym, ap, ap₂, ◌∙◌, subst, arith, append_assoc, append-nil}
+use Rattle.std.specs.Prelude.{codes, decimal}
 use Rattle.std.specs.List.{flat_map, filter_map, cons_option, list_any, range_with_len, AllByRecursion, AllZip}
 use Rattle.std.proofs.lemmas.List.Sums.{sum_by-cons}
 use Rattle.adg_base.specs.declared.answer.Line.{Line}
@@ -9,21 +9,20 @@ use Rattle.adg_base.specs.declared.answer.Reply.{Reply}
 use Rattle.adg_base.specs.declared.answer.Reply.TheVariants.{Rows, Populated, Synced, Shown, Aborted, BadQuery, NoTable, NotInMemory, NoColumn, WrongType, Down}
 use Rattle.adg_base.specs.declared.log.LogEntry.{LogEntry}
 use Rattle.adg_base.specs.declared.vector.RedoRecord.{RedoRecord}
-use Rattle.adg_model.specs.declared.delivery.RawDelivery.{RawDelivery}
 use Rattle.adg_model.specs.Database.{no_database}
 use Rattle.adg_model.specs.Log.{frontier, merged_log, ReceivedFrom}
 use Rattle.adg_model.specs.Reply.{IsReply, line_bytes, lines_bytes, end_line_bytes, at_scn, newline}
 use Rattle.adg_model.specs.Sound.{SoundFrom, IsSound}
-use Rattle.adg_model.specs.Transcript.{Asked, Answers, asked_from, all_asked, scn_of, reply_in, replies_to, is_abort, is_down, AllAre, SyncHolds, replies_that, IsLegal, LegalFrom, IsTranscript, printed}
+use Rattle.adg_model.specs.Transcript.{Answers, asked_from, all_asked, scn_of, replies_to, is_abort, is_down, AllAre, SyncHolds, replies_that, LegalFrom, IsTranscript, printed}
 use Rattle.adg_model.proofs.DeliveryLaws.{records_are_determined}
 use Rattle.feed_gen.specs.Generated.{generated_deliveries}
 use Rattle.feed_gen.proofs.Lawful.{each_is_read}
-use Rattle.soak_run.specs.Summary.{soaked, table_text, run_text, summary_text, IsSummary}
-use Rattle.soak_run.specs.Telling.{Told, nothing_told, synced, after_line, after_lines, lines_in, with_run, told_of, synced_mark, behind_equals}
-use Rattle.soak_run.proofs.Asked.{sync_text, questions, last_commands, HasLast, soaked_last, asked_last, none_aborts}
-use Rattle.soak_run.proofs.LastLines.{LastLines, last_lines, EndsLine, printed_last}
+use Rattle.soak_run.specs.Summary.{soaked, run_text, summary_text, IsSummary}
+use Rattle.soak_run.specs.Telling.{Told, nothing_told, synced, after_lines, lines_in, with_run, told_of, synced_mark, behind_equals}
+use Rattle.soak_run.proofs.Asked.{sync_text, questions, HasLast, soaked_last, asked_last, none_aborts}
+use Rattle.soak_run.proofs.LastLines.{LastLines, last_lines, printed_last}
 use Rattle.soak_run.proofs.Lines.{IsPlain, plain_append, plain_text, decimal_plain, EndsOtherwise, decimal_ends, ends_append, behind_number}
-use Rattle.soak_run.proofs.Reading.{after_append, read_line, read_some, after_sync, after_end}
+use Rattle.soak_run.proofs.Reading.{read_line, read_some, after_sync, after_end}
 use Rattle.soak_run.proofs.Replies.{sync_reply}
 use Rattle.soak_run.proofs.Tables.{AnswersAt, piece, told, read_tables, all_pieces}
 

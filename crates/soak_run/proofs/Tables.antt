@@ -1,21 +1,20 @@
 -- The lines of the last delivery are told table by table.
-use Rattle.std.proofs.Common.{◌≡◌, ℕ, zero, suc, ◌+◌, ◌<◌, ◌≤◌, ◌==◌, Bool, true, false, cond, List, [], ◌∷◌, ◌++◌, length, map, Option, Some, None, ◌⊎◌, inl, inr, refl, sym, ap, ap₂, ◌∙◌, subst, arith, append_assoc, append-nil}
+use Rattle.std.proofs.Common.{◌≡◌, ℕ, zero, suc, ◌+◌, ◌<◌, ◌≤◌, ◌==◌, Bool, true, false, cond, List, [], ◌∷◌, ◌++◌, Some, ◌⊎◌, inl, inr, refl, sym, ap, ap₂, ◌∙◌, arith, append_assoc, append-nil}
 use Rattle.std.specs.Prelude.{codes, decimal}
 use Rattle.std.specs.List.{flat_map, range_with_len, AllByRecursion, AllZip}
 use Rattle.std.proofs.lemmas.Bool.Decides.{nat_tests}
 use Rattle.adg_base.specs.declared.answer.Line.{Line}
 use Rattle.adg_base.specs.declared.answer.Reply.{Reply}
-use Rattle.adg_base.specs.declared.command.Command.TheVariants as command
 use Rattle.adg_base.specs.declared.log.LogEntry.{LogEntry}
 use Rattle.adg_model.specs.Database.{no_database}
-use Rattle.adg_model.specs.Reply.{IsReply, reply_bytes, line_bytes, result_line_bytes, at_scn, newline}
+use Rattle.adg_model.specs.Reply.{IsReply, line_bytes, result_line_bytes, newline}
 use Rattle.adg_model.specs.Sound.{SoundFrom}
 use Rattle.adg_model.specs.Transcript.{Answers, asked_from, is_down, scn_of}
 use Rattle.soak_run.specs.Summary.{balances_of, answer_at, line_text, table_text}
-use Rattle.soak_run.specs.Telling.{Told, between, with_table, after_line, after_lines, lines_in}
+use Rattle.soak_run.specs.Telling.{Told, between, with_table, after_lines, lines_in}
 use Rattle.soak_run.proofs.Asked.{table_question, questions, is_question}
 use Rattle.soak_run.proofs.Cells.{balances_plain}
-use Rattle.soak_run.proofs.Lines.{IsPlain, plain_append, decimal_plain, EndsOtherwise, ends_append}
+use Rattle.soak_run.proofs.Lines.{IsPlain, plain_append, decimal_plain, ends_append}
 use Rattle.soak_run.proofs.Reading.{read_line, read_answer, after_reply}
 use Rattle.soak_run.proofs.Replies.{Prints, table_reply}
 

@@ -1,5 +1,5 @@
 -- The accepted lines of words of the mode.
-use Rattle.std.specs.Prelude.{◌≡◌, ◌≢◌, ℕ, ◌<◌, ◌≤◌, ◌^◌, Bool, true, false, ◌==◌, ◌||◌, if◌then◌else◌, List, [], ◌∷◌, ◌++◌, Option, Some, None, option_to_list, codes, decimal}
+use Rattle.std.specs.Prelude.{◌≡◌, ℕ, ◌<◌, ◌≤◌, ◌^◌, Bool, true, false, ◌==◌, ◌||◌, if◌then◌else◌, List, [], ◌∷◌, ◌++◌, Option, Some, None, option_to_list, codes, decimal}
 use Rattle.std.specs.List.{flat_map, filter_map, AllByRecursion}
 use Rattle.soak_run.specs.declared.setting.OptionName.{OptionName}
 use Rattle.soak_run.specs.declared.setting.OptionName.TheVariants.{Seed, Txns, Workers}

@@ -1,4 +1,4 @@
-use Rattle.std.proofs.Common.{sym, ap, ◌∙◌, arith}
+use Rattle.std.proofs.Common.{sym, ap, ◌∙◌}
 use Rattle.soak_run.specs.Words.{is_padded}
 use Rattle.soak_run.proofs.Numbers.{padded_none, parsed, unparsed}
 use Rattle.soak_run.proofs.setting.number_of.Goals as goal

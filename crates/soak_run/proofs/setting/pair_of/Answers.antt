@@ -1,4 +1,4 @@
-use Rattle.std.proofs.Common.{false, ◌≡◌}
+use Rattle.std.proofs.Common.{false}
 use Rattle.std.specs.Prelude.{IsTrue}
 use Rattle.soak_run.proofs.Numbers.{refused}
 use Rattle.soak_run.proofs.setting.pair_of.Goals as goal

@@ -1,5 +1,4 @@
 use Rattle.std.proofs.Common.{◌≡◌, Bool, true, false}
-use Rattle.std.specs.Prelude.{IsTrue}
 use Rattle.feed_run.specs.View.{sink_view}
 use Rattle.soak_run.proofs.Soaked.{whole_offer, cut_offer}
 use Rattle.soak_run.proofs.soak.end_with.Goals as goal

@@ -1,8 +1,7 @@
-use Rattle.std.proofs.Common.{◌≡◌, ℕ, sym, subst, ap}
-use Rattle.feed_run.specs.declared.outcome.Outcome.{Outcome}
+use Rattle.std.proofs.Common.{ℕ, sym, subst}
 use Rattle.feed_run.specs.Headline.{Headline}
 use Rattle.feed_run.specs.View.{sink_view, source_view}
-use Rattle.soak_run.specs.Run.{SoakEnds, Offers}
+use Rattle.soak_run.specs.Run.{SoakEnds}
 use Rattle.soak_run.specs.Summary.{IsSummary}
 use Rattle.soak_run.proofs.Soaked.{offered, wanting}
 use Rattle.soak_run.proofs.soak.soak.Goals as goal

@@ -1,5 +1,4 @@
-use Rattle.std.proofs.Common.{◌≡◌, ℕ, List, Some, sym, ap, ◌∙◌}
-use Rattle.std.proofs.lemmas.Bool.{eqb-true}
+use Rattle.std.proofs.Common.{ap, ◌∙◌}
 use Rattle.feed_run.specs.Standby.{SomeAnswered}
 use Rattle.soak_run.proofs.Soaked.{ran_from}
 use Rattle.soak_run.proofs.soak.transcript_of.Goals as goal

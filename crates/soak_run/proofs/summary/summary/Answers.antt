@@ -1,5 +1,5 @@
 use Rattle.std.proofs.Common.{◌≡◌, ℕ, List, Result, Ok, Err, sym, subst}
-use Rattle.std.specs.Prelude.{IfOk, Vec}
+use Rattle.std.specs.Prelude.{IfOk}
 use Rattle.soak_run.specs.Summary.{IsSummary}
 use Rattle.soak_run.specs.Telling.{told_of}
 use Rattle.soak_run.proofs.Summed.{summed}

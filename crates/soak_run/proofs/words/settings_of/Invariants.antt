@@ -1,4 +1,4 @@
-use Rattle.std.proofs.Common.{◌≡◌, map, string_bytes, length}
+use Rattle.std.proofs.Common.{map, string_bytes, length}
 use Rattle.soak_run.specs.Words.{AreRead}
 use Rattle.soak_run.proofs.words.settings_of.Given as goal
 
