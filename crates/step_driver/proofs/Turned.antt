@@ -1,5 +1,5 @@
 -- A turn of the driver is a turn of the rule.
-use Rattle.std.proofs.Common.{◌≡◌, ℕ, ◌+◌, ◌-◌, ◌<◌, ◌≤◌, Bool, true, false, ◌||◌, List, [], ◌∷◌, ◌++◌, length, Option, Some, None, ◌⊎◌, inl, inr, refl, sym, ap, ◌∙◌, subst, arith}
+use Rattle.std.proofs.Common.{◌≡◌, ℕ, ◌+◌, ◌<◌, Bool, true, false, ◌||◌, List, [], ◌∷◌, length, Option, Some, None, refl, sym, ap, ◌∙◌, subst, arith}
 use Rattle.std.specs.Prelude.{Result, Ok, Err, OnOk}
 use Rattle.std.proofs.Math.Nat.{mod-eq_of_lt}
 use Rattle.adg_base.specs.declared.answer.Reply.{Reply}
@@ -10,7 +10,7 @@ use Rattle.core_rules.specs.Runs.{Move, Takes}
 use Rattle.standby_core.specs.declared.standby.Core.{Core}
 use Rattle.standby_core.specs.Shows.{IsState}
 use Rattle.turn_rules.specs.Round.{Seat, Round, actors, is_over}
-use Rattle.turn_rules.specs.Picks.{Act, Rests, Makes, Actor, Coordinator, WorkerAt, SessionAt, actor_of, act_of, act_at, number_at}
+use Rattle.turn_rules.specs.Picks.{Rests, Makes, Actor, Coordinator, WorkerAt, SessionAt, actor_of, act_of}
 use Rattle.turn_rules.specs.Turns.{Acts, seats_after, is_abort_told, TakesTurn}
 use Rattle.turn_rules.specs.Measure.{measure}
 use Rattle.turn_rules.specs.Standing.{RoundIs}

@@ -1,4 +1,4 @@
-use Rattle.std.proofs.Common.{◌≡◌, Option, Some, refl, ap, sym, subst}
+use Rattle.std.proofs.Common.{Option, Some, refl, ap, sym, subst}
 use Rattle.std.specs.Prelude.{Result, Ok, Err, IfOk}
 use Rattle.adg_base.specs.declared.answer.Reply.{Reply}
 use Rattle.core_rules.specs.declared.event.Event.{Event}

@@ -1,11 +1,11 @@
-use Rattle.std.proofs.Common.{◌≡◌, ℕ, ◌<◌, length, Option, Some, None, ap, sym, ◌∙◌, subst, refl, arith}
+use Rattle.std.proofs.Common.{◌≡◌, ℕ, ◌<◌, length, Option, Some, None, ap, ◌∙◌, refl, arith}
 use Rattle.std.specs.Prelude.{Result, Ok, Err, IfOk, slice_get}
 use Rattle.core_rules.specs.State.{Session, At}
 use Rattle.core_rules.proofs.Lists.{at_within, at_exists}
-use Rattle.turn_rules.specs.Round.{Request, Seat, at_hand, Round}
+use Rattle.turn_rules.specs.Round.{Request, Seat, Round}
 use Rattle.turn_rules.specs.Picks.{Act, request_act, session_act}
 use Rattle.step_driver.specs.Acts.{act_shown}
-use Rattle.step_driver.specs.Seating.{request_shown, seats_shown, hand_of}
+use Rattle.step_driver.specs.Seating.{request_shown, hand_of}
 use Rattle.step_driver.proofs.turn.pick.Goals as goal
 
 if_ok : {T E : Type 0} (r : Result T E) (P Q : T → Type 0) → ((x : T) → P x → Q x) → IfOk r P → IfOk r Q

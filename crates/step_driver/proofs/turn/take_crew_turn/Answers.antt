@@ -1,15 +1,9 @@
-use Rattle.std.proofs.Common.{◌≡◌, ℕ, ◌+◌, ◌-◌, ◌<◌, ◌≤◌, Bool, true, false, cond, List, [], ◌∷◌, length, Option, Some, None, inl, inr, refl, sym, ap, ◌∙◌, subst, arith}
-use Rattle.std.specs.Prelude.{Result, Ok, Err, OnOk, OnErr, nat_le, ◌==◌, ◌||◌}
-use Rattle.std.proofs.lemmas.Bool.{leb-true, eqb-false}
-use Rattle.adg_base.specs.declared.answer.Reply.{Reply}
-use Rattle.core_rules.specs.State.{CoreState}
+use Rattle.std.proofs.Common.{◌≡◌, ◌<◌, false, [], ◌∷◌, length, None, inl, inr, refl, sym, ap, ◌∙◌, subst}
 use Rattle.standby_core.proofs.Exits.{at_err}
-use Rattle.turn_rules.specs.Round.{Seat, Round, actors, is_over}
-use Rattle.turn_rules.specs.Picks.{Rests, Makes, Replies, MakesAndReplies, Coordinator, WorkerAt, SessionAt, Actor, actor_of, act_of}
-use Rattle.turn_rules.specs.Turns.{seats_after, is_abort_told}
-use Rattle.step_driver.specs.declared.act.Act.{Act}
-use Rattle.step_driver.specs.declared.act.Act.TheVariants as own
-use Rattle.step_driver.specs.Acts.{crew_shown, actor_shown, IsThere, HasActed}
+use Rattle.turn_rules.specs.Round.{Round, actors, is_over}
+use Rattle.turn_rules.specs.Picks.{Rests, Makes, actor_of, act_of}
+use Rattle.turn_rules.specs.Turns.{seats_after}
+use Rattle.step_driver.specs.Acts.{crew_shown, HasActed}
 use Rattle.step_driver.specs.Seating.{seats_shown}
 use Rattle.step_driver.specs.Rounds.{ShowsRound}
 use Rattle.step_driver.proofs.Turned.{none_told, or_none, on_ok_three, made, turned, rests, any_turn, shows_again, stopped_after, less_left}
