@@ -4,8 +4,8 @@ use crate::tests::play::{play, schedule_line};
 use std::alloc::Global;
 use std::test::Fail;
 
-/// The schedule of a delivery in which session 1 populates a table of two extents and asks for the SCN,
-/// session 2 selects from it, and sessions 3 and 4 have an ABORT each; and its lines.
+/// The schedule of a delivery in which sessions 1 and 5 populate a table of two extents, sessions 2 and 6
+/// select from it, and sessions 3 and 4 have an ABORT each; and its lines.
 ///
 /// A population has 38 turns: it begins, registers two units, lets publication go on, and then reads 16
 /// blocks of an extent and ends it, twice. A scan has four: it begins, goes over two extents, and ends.
@@ -16,7 +16,7 @@ struct Stop {
     lines: &'static str,
 }
 
-const FIRST: &str = "threads 1 sessions 4
+const FIRST: &str = "threads 1 sessions 6
 1@10: Create t1 x2 im (int)
 1@11: Begin 7; Put 7 t1.0.0 (1); Put 7 t1.16.0 (2); Commit 7 +
 end
@@ -26,6 +26,8 @@ session 1: SHOW SCN
 session 2: SELECT * FROM t1
 session 3: ABORT
 session 4: ABORT
+session 5: POPULATE t1
+session 6: SELECT COUNT FROM t1
 ";
 
 /// Behind the restart all goes on: what was not published is, and rows come from new units.
@@ -62,6 +64,8 @@ d2 s1 c2 down
 d2 s2 c1 down
 d2 s3 c1 scn=11 aborted
 d2 s4 c1 down
+d2 s5 c1 down
+d2 s6 c1 down
 d2 end scn=11
 ";
 
@@ -71,10 +75,12 @@ d2 s1 c2 down
 d2 s2 c1 down
 d2 s3 c1 down
 d2 s4 c1 scn=11 aborted
+d2 s5 c1 down
+d2 s6 c1 down
 d2 end scn=11
 ";
 
-static STOPS: [Stop; 17] = [
+static STOPS: [Stop; 22] = [
     Stop {
         name: "the cycle",
         workers: 1,
@@ -152,6 +158,8 @@ d2 s2 c1 scn=11 rows=2 col=2 row=0
 = 2
 d2 s3 c1 down
 d2 s4 c1 scn=11 aborted
+d2 s5 c1 down
+d2 s6 c1 down
 d2 end scn=11
 ",
     },
@@ -166,6 +174,58 @@ d2 s2 c1 scn=11 rows=2 col=0 row=2
 = 2
 d2 s3 c1 down
 d2 s4 c1 scn=11 aborted
+d2 s5 c1 down
+d2 s6 c1 down
+d2 end scn=11
+",
+    },
+    Stop {
+        name: "two populations and two scans are open",
+        workers: 1,
+        schedule: "02*2 06*3 03*2 07 05",
+        lines: BY_FOUR,
+    },
+    Stop {
+        name: "two populations and two scans are open",
+        workers: 2,
+        schedule: "07*4 03*30 04 08*3 05",
+        lines: BY_THREE,
+    },
+    Stop {
+        name: "two populations and two scans are open",
+        workers: 8,
+        schedule: "09*21 0d*37 0a*3 0e*2 0c",
+        lines: BY_FOUR,
+    },
+    Stop {
+        name: "one population is told, another has put its units there",
+        workers: 1,
+        schedule: "02*38 06*20 03*4 07*3 04",
+        lines: "d2 s1 c1 scn=11 populated units=2
+d2 s1 c2 down
+d2 s2 c1 scn=11 rows=2 col=0 row=2
+= 1
+= 2
+d2 s3 c1 scn=11 aborted
+d2 s4 c1 down
+d2 s5 c1 down
+d2 s6 c1 down
+d2 end scn=11
+",
+    },
+    Stop {
+        name: "one population is told, another has installed an extent",
+        workers: 1,
+        schedule: "02*38 06*21 03*4 07*3 04",
+        lines: "d2 s1 c1 scn=11 populated units=2
+d2 s1 c2 down
+d2 s2 c1 scn=11 rows=2 col=1 row=1
+= 1
+= 2
+d2 s3 c1 scn=11 aborted
+d2 s4 c1 down
+d2 s5 c1 down
+d2 s6 c1 down
 d2 end scn=11
 ",
     },
@@ -196,6 +256,8 @@ d2 s1 c2 down
 d2 s2 c1 down
 d2 s3 c1 scn=12 aborted
 d2 s4 c1 down
+d2 s5 c1 down
+d2 s6 c1 down
 d2 end scn=12
 ",
     },
