@@ -1,5 +1,5 @@
 -- The run of a feed on the bench, from what the run of any feed promises.
-use Rattle.std.proofs.Common.{◌≡◌, ℕ, List, [], Some, ◌∙◌, sym, subst}
+use Rattle.std.proofs.Common.{◌≡◌, ◌++◌, ℕ, List, [], Some, ◌∙◌, ap, sym, subst}
 use Rattle.feed_run.specs.declared.outcome.Outcome.{Outcome}
 use Rattle.feed_run.specs.Ending.{RunEnds}
 use Rattle.feed_run.specs.Headline.{Headline}
@@ -12,17 +12,19 @@ use Rattle.core_standby.proofs.RanLaws.{ran_all, ran_none}
 use Rattle.driver_runs.specs.declared.bench.Answer.{Answer}
 use Rattle.driver_runs.specs.Run.{HasRun}
 
-pub has_run : (workers : ℕ) (feed left held : List ℕ) (faults faults_now failures failures_now : ℕ) (outcome : Outcome) (answer : Answer)
-    → Headline (RunEnds (SomeAnswered HasAnswered workers) (Some feed)) (source_view (Some feed) faults) (source_view (Some left) faults_now) (sink_view (Some []) failures) (sink_view (Some held) failures_now) outcome
+-- a feed was run, from a source that gave it to a sink that was empty
+pub has_run : (workers : ℕ) (feed given left empty held : List ℕ) (faults faults_now failures failures_now : ℕ) (outcome : Outcome) (answer : Answer) → given ≡ feed → empty ≡ []
+    → Headline (RunEnds (SomeAnswered HasAnswered workers) (Some given)) (source_view (Some given) faults) (source_view (Some left) faults_now) (sink_view (Some empty) failures) (sink_view (Some held) failures_now) outcome
     → answer.status ≡ outcome.status → answer.lines.items ≡ held → HasRun workers feed answer
-has_run workers feed left held faults faults_now failures failures_now outcome answer h status lines =
-    let P : List ℕ → Type 0 = λ bytes. RunEnds (RanAll workers) (Some feed) h.ending h.taken bytes in
-    record {
-      taken = h.taken;
-      left = left;
-      split = h.took;
-      ending = h.ending;
-      status = status ∙ h.status;
-      ends = subst P (sym (lines ∙ h.wrote))
-          (ends_weaker (SomeAnswered HasAnswered workers) (RanAll workers) (some_weaker HasAnswered workers (RanAll workers) (λ s. ran_all s workers) (ran_none workers)) (Some feed) h.ending h.taken h.written h.ends);
-    }
+has_run workers feed given left empty held faults faults_now failures failures_now outcome answer gives none h status lines = record {
+  taken = h.taken;
+  left = left;
+  split = sym gives ∙ h.took;
+  ending = h.ending;
+  status = status ∙ h.status;
+  ends =
+      let written : answer.lines.items ≡ h.written = lines ∙ h.wrote ∙ ap (λ (l : List ℕ). l ++ h.written) none in
+      subst (λ (bytes : List ℕ). RunEnds (RanAll workers) (Some feed) h.ending h.taken bytes) (sym written)
+      (subst (λ (bytes : List ℕ). RunEnds (RanAll workers) (Some bytes) h.ending h.taken h.written) gives
+      (ends_weaker (SomeAnswered HasAnswered workers) (RanAll workers) (some_weaker HasAnswered workers (RanAll workers) (λ s. ran_all s workers) (ran_none workers)) (Some given) h.ending h.taken h.written h.ends));
+}
