@@ -1,0 +1,6 @@
+mod aborts;
+mod cases;
+mod commands;
+mod play;
+mod rounds;
+mod turns;
