@@ -167,24 +167,42 @@ fn stops_as_worked<H: Threads + Wait + Sync>(rt: &H, alloc: Global) -> io::Resul
     Ok(true)
 }
 
-fn main(rt: HostRuntime) -> io::Result<()> {
-    for (name, status) in EXAMPLES {
-        if is_as_stored(&rt, name, status)? {
+/// Says of each example whether it runs as stored, and what there is to say of its text.
+fn tell_of_examples<H: Files + Print + Alloc<A = Global> + Threads + Wait + Sync>(
+    rt: &H,
+    examples: &[(&str, u8)],
+) -> io::Result<()> {
+    for (name, status) in examples {
+        if is_as_stored(rt, name, *status)? {
             println!(rt; "{name}: status {status}, as stored")?;
         } else {
             println!(rt; "{name}: another status or other lines")?;
         }
-        let said = said_of_text(&rt, name)?;
+        let said = said_of_text(rt, name)?;
         println!(rt; "{name}: {said}")?;
     }
-    for case in &CASES {
+    Ok(())
+}
+
+/// Says of each case whether it runs as worked.
+fn tell_of_cases<H: Print + Alloc<A = Global> + Threads + Wait + Sync>(
+    rt: &H,
+    cases: &[Case],
+) -> io::Result<()> {
+    for case in cases {
         let name = case.name;
-        if is_as_worked(&rt, rt.alloc(), case)? {
+        if is_as_worked(rt, rt.alloc(), case)? {
             println!(rt; "{name}: as worked")?;
         } else {
             println!(rt; "{name}: another status or other lines")?;
         }
     }
+    Ok(())
+}
+
+fn main(rt: HostRuntime) -> io::Result<()> {
+    tell_of_examples(&rt, &EXAMPLES)?;
+    tell_of_cases(&rt, &CASES)?;
     if stops_as_worked(&rt, rt.alloc())? {
         println!(rt; "a stop after each of 127 turns: as worked")?;
     } else {
