@@ -15,7 +15,11 @@ const ONE: &[&str] = &["1"];
 const SOME: &[&str] = &["1", "2", "8"];
 
 /// The worked cases.
-pub static CASES: [Case; 31] = [
+pub fn worked() -> &'static [Case] {
+    &CASES
+}
+
+static CASES: [Case; 31] = [
     Case {
         name: "first_answer_no_such_table",
         workers: SOME,

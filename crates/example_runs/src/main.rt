@@ -6,7 +6,7 @@
 mod cases;
 mod texts;
 
-use crate::cases::{CASES, CHANGED, CHANGED_LINES, Case, READ_LINES};
+use crate::cases::{CHANGED, CHANGED_LINES, Case, READ_LINES, worked};
 use crate::texts::said_of_text;
 use adg_io::gate::OpenGate;
 use adg_io::memory_sink::MemSink;
@@ -202,7 +202,7 @@ fn tell_of_cases<H: Print + Alloc<A = Global> + Threads + Wait + Sync>(
 
 fn main(rt: HostRuntime) -> io::Result<()> {
     tell_of_examples(&rt, &EXAMPLES)?;
-    tell_of_cases(&rt, &CASES)?;
+    tell_of_cases(&rt, worked())?;
     if stops_as_worked(&rt, rt.alloc())? {
         println!(rt; "a stop after each of 127 turns: as worked")?;
     } else {
