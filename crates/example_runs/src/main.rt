@@ -6,7 +6,7 @@
 mod cases;
 mod texts;
 
-use crate::cases::{CHANGED, CHANGED_LINES, Case, READ_LINES, worked};
+use crate::cases::{CASES, CHANGED, CHANGED_LINES, Case, READ_LINES};
 use crate::texts::said_of_text;
 use adg_io::gate::OpenGate;
 use adg_io::memory_sink::MemSink;
@@ -105,30 +105,38 @@ fn runs_so<H: Threads + Wait + Sync>(
     alloc: Global,
     case: &Case,
     text: &str,
+    lines: &[u8],
 ) -> io::Result<bool> {
     for workers in case.workers {
         let Ok(feed) = assemble(alloc, text.as_bytes()) else {
             return Ok(false);
         };
-        let wanted = (case.status, case.lines.as_bytes());
-        if !ends_so(rt, alloc, workers, feed, wanted)? {
+        if !ends_so(rt, alloc, workers, feed, (case.status, lines))? {
             return Ok(false);
         }
     }
     Ok(true)
 }
 
-/// The same, and where schedule bytes change nothing, with these too.
-fn is_as_worked<H: Threads + Wait + Sync>(rt: &H, alloc: Global, case: &Case) -> io::Result<bool> {
-    if !runs_so(rt, alloc, case, case.text)? {
+/// Whether the feed of a case runs as what is stored beside it says, and where schedule bytes change
+/// nothing, with these too.
+fn is_as_worked<H: Files + Alloc<A = Global> + Threads + Wait + Sync>(
+    rt: &H,
+    case: &Case,
+) -> io::Result<bool> {
+    let alloc = rt.alloc();
+    let name = case.name;
+    let text = fs::read_to_string(rt, format!(in alloc; "worked_{name}.txt")?.as_str())?;
+    let lines = fs::read(rt, format!(in alloc; "worked_{name}.out")?.as_str())?;
+    if !runs_so(rt, alloc, case, text.as_str(), lines.as_slice())? {
         return Ok(false);
     }
     if !case.any_schedule {
         return Ok(true);
     }
     for schedule in SCHEDULES {
-        let text = scheduled(alloc, case.text, schedule)?;
-        if !runs_so(rt, alloc, case, text.as_str())? {
+        let text = scheduled(alloc, text.as_str(), schedule)?;
+        if !runs_so(rt, alloc, case, text.as_str(), lines.as_slice())? {
             return Ok(false);
         }
     }
@@ -185,13 +193,13 @@ fn tell_of_examples<H: Files + Print + Alloc<A = Global> + Threads + Wait + Sync
 }
 
 /// Says of each case whether it runs as worked.
-fn tell_of_cases<H: Print + Alloc<A = Global> + Threads + Wait + Sync>(
+fn tell_of_cases<H: Files + Print + Alloc<A = Global> + Threads + Wait + Sync>(
     rt: &H,
     cases: &[Case],
 ) -> io::Result<()> {
     for case in cases {
         let name = case.name;
-        if is_as_worked(rt, rt.alloc(), case)? {
+        if is_as_worked(rt, case)? {
             println!(rt; "{name}: as worked")?;
         } else {
             println!(rt; "{name}: another status or other lines")?;
@@ -202,7 +210,7 @@ fn tell_of_cases<H: Print + Alloc<A = Global> + Threads + Wait + Sync>(
 
 fn main(rt: HostRuntime) -> io::Result<()> {
     tell_of_examples(&rt, &EXAMPLES)?;
-    tell_of_cases(&rt, worked())?;
+    tell_of_cases(&rt, &CASES)?;
     if stops_as_worked(&rt, rt.alloc())? {
         println!(rt; "a stop after each of 127 turns: as worked")?;
     } else {
