@@ -1,7 +1,6 @@
 -- The headline over the words, from what the run of a feed and a realistic run promise.
-use Rattle.std.proofs.Common.{◌≡◌, ◌≢◌, ℕ, List, [], ◌∷◌, Option, Some, None, codes, sym, subst, ◌∙◌}
+use Rattle.std.proofs.Common.{◌≡◌, ◌≢◌, ℕ, List, [], ◌∷◌, Option, Some, None, sym, subst}
 use Rattle.adg_model.specs.declared.delivery.RawDelivery.{RawDelivery}
-use Rattle.adg_model.specs.Transcript.{IsTranscript}
 use Rattle.feed_run.specs.declared.outcome.Outcome.{Outcome}
 use Rattle.feed_run.specs.Ending.{RunEnds}
 use Rattle.feed_run.specs.Headline as run
@@ -18,7 +17,7 @@ use Rattle.soak_run.specs.Words.{IsSoakLine}
 use Rattle.soak_run.proofs.OneJob.{one_job}
 use Rattle.std.specs.Mem.{manually_drop_value}
 use Rattle.imadg_top.specs.declared.kept.Kept.{Kept}
-use Rattle.imadg_top.specs.Headline.{Task, Step, Soak, Usage, Asks, Headline, IsComplete}
+use Rattle.imadg_top.specs.Headline.{Step, Soak, Usage, Headline, IsComplete}
 use Rattle.imadg_top.specs.Stepped.{SteppedEnds, SteppedHeadline, IsSteppedComplete}
 use Rattle.imadg_top.specs.Words.{workers_of}
 
