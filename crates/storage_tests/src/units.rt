@@ -132,5 +132,8 @@ fn drops_and_replaces(rt: HostRuntime) -> Result<(), Fail> {
         assert!(rt; shard.find(obj, extent).is_none());
     }
     assert!(rt; unit_of(&shard, other, 0)?.ticket == 7);
+    assert!(rt; !shard.is_empty());
+    shard.drop_object(other);
+    assert!(rt; shard.is_empty());
     Ok(())
 }
