@@ -1,5 +1,5 @@
 -- The headline over the words, from what the run of a feed and a realistic run promise.
-use Rattle.std.proofs.Common.{◌≡◌, ◌≢◌, ℕ, List, [], ◌∷◌, Option, Some, None, sym, subst}
+use Rattle.std.proofs.Common.{◌≡◌, ◌≢◌, ℕ, List, [], ◌∷◌, Option, Some, None, refl, sym, subst, ap}
 use Rattle.adg_model.specs.declared.delivery.RawDelivery.{RawDelivery}
 use Rattle.feed_run.specs.declared.outcome.Outcome.{Outcome}
 use Rattle.feed_run.specs.Ending.{RunEnds}
@@ -17,7 +17,7 @@ use Rattle.soak_run.specs.Words.{IsSoakLine}
 use Rattle.soak_run.proofs.OneJob.{one_job}
 use Rattle.std.specs.Mem.{manually_drop_value}
 use Rattle.imadg_top.specs.declared.kept.Kept.{Kept}
-use Rattle.imadg_top.specs.Headline.{Step, Soak, Usage, Headline, IsComplete}
+use Rattle.imadg_top.specs.Headline.{Step, Soak, Usage, AskOnce, Headline, IsComplete}
 use Rattle.imadg_top.specs.Stepped.{SteppedEnds, SteppedHeadline, IsSteppedComplete}
 use Rattle.imadg_top.specs.Words.{workers_of}
 
@@ -58,9 +58,7 @@ other_mode (mode ∷ name ∷ value ∷ other ∷ more) job workers h e = absurd
 
 module _ (words : List (List ℕ)) (job : Job) (line : IsSoakLine words job) (source source_now : SourceView) (sink sink_now : SinkView) (outcome : Outcome) where
   pub headline_soak : run.Headline (SoakEnds job.seed job.txns) source source_now sink sink_now outcome → Headline words source source_now sink sink_now outcome
-  headline_soak h (Step workers) asks = absurd (other_mode words job workers line asks)
-  headline_soak h (Soak other) asks = subst (λ (j : Job). run.Headline (SoakEnds j.seed j.txns) source source_now sink sink_now outcome) (one_job words job other line asks) h
-  headline_soak h Usage asks = absurd (asks.1 job line)
+  headline_soak h = record { task = Soak job; asks = line; ran = h }
 
   pub complete_soak : IsSoakComplete sink sink_now outcome → IsComplete words source source_now sink sink_now outcome
   complete_soak h (Step workers) asks = absurd (other_mode words job workers line asks)
@@ -74,11 +72,26 @@ some_workers o workers e none = absurd cc
 
 module _ (words : List (List ℕ)) (none : (job : Job) → IsSoakLine words job → ⊥) (source source_now : SourceView) (sink sink_now : SinkView) (outcome : Outcome) where
   pub headline_other : SteppedHeadline words source source_now sink sink_now outcome → Headline words source source_now sink sink_now outcome
-  headline_other h (Step workers) asks = subst (λ (o : Option ℕ). run.Headline (SteppedEnds o source.left) source source_now sink sink_now outcome) asks h
-  headline_other h (Soak job) asks = absurd (none job asks)
-  headline_other h Usage asks = subst (λ (o : Option ℕ). run.Headline (SteppedEnds o source.left) source source_now sink sink_now outcome) asks.0 h
+  headline_other h = by (workers_of words) refl h
+    where
+      by : (o : Option ℕ) → workers_of words ≡ o → run.Headline (SteppedEnds o source.left) source source_now sink sink_now outcome → Headline words source source_now sink sink_now outcome
+      by (Some workers) e ran = record { task = Step workers; asks = e; ran = ran }
+      by None e ran = record { task = Usage; asks = (e, none); ran = ran }
 
   pub complete_other : IsSteppedComplete words source source_now sink sink_now outcome → IsComplete words source source_now sink sink_now outcome
   complete_other h (Step workers) asks = h (some_workers (workers_of words) workers asks)
   complete_other h (Soak job) asks = absurd (none job asks)
   complete_other h Usage asks = tt
+
+-- ---- words ask for one thing only
+
+pub ask_once : AskOnce
+ask_once words (Step a) (Step b) f g = cc
+ask_once words (Step a) (Soak job) f g = absurd (other_mode words job a g f)
+ask_once words (Step a) Usage f g = absurd (some_workers (workers_of words) a f g.0)
+ask_once words (Soak job) (Step b) f g = absurd (other_mode words job b f g)
+ask_once words (Soak job) (Soak other) f g = ap Soak (one_job words job other f g)
+ask_once words (Soak job) Usage f g = absurd (g.1 job f)
+ask_once words Usage (Step b) f g = absurd (some_workers (workers_of words) b g f.0)
+ask_once words Usage (Soak job) f g = absurd (f.1 job g)
+ask_once words Usage Usage f g = refl

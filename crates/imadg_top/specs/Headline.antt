@@ -10,8 +10,8 @@ use Rattle.soak_run.specs.Run.{SoakEnds, IsSoakComplete}
 use Rattle.soak_run.specs.Words.{IsSoakLine}
 use Rattle.imadg_top.specs.Words.{workers_of}
 
--- What words ask for, which is always one of these and never two: that the feed of the source is run, by so many
--- workers; a realistic run; or, where they are no accepted line, the usage line.
+-- What words ask for: that the feed of the source is run, by so many workers; a realistic run; or, where they are no
+-- accepted line, the usage line.
 pub data Task : Type 0 where
   Step : (workers : ℕ) → Task
   Soak : Job → Task
@@ -23,17 +23,22 @@ Asks words (Step workers) = workers_of words ≡ Some workers
 Asks words (Soak job) = IsSoakLine words job
 Asks words Usage = (workers_of words ≡ None) × ((job : Job) → IsSoakLine words job → ⊥)
 
+-- words ask for one thing only
+abbrev pub AskOnce : Type 0
+AskOnce = (words : List (List ℕ)) (a b : Task) → Asks words a → Asks words b → a ≡ b
+
 -- how a run ends that was asked for so
 abbrev pub Ends : Task → Option (List ℕ) → Ending → (taken written : List ℕ) → Type 0
 Ends (Step workers) source = RunEnds (RanAll workers) source
 Ends (Soak job) source = SoakEnds job.seed job.txns
 Ends Usage source = UsageEnds
 
--- The headline, for what the words ask for: what was taken of the source and written to the sink, the two counts, how
--- the run ended and what caused it.
-abbrev pub Headline : (words : List (List ℕ)) (source source_now : SourceView) (sink sink_now : SinkView) → Outcome → Type 0
-Headline words source source_now sink sink_now outcome =
-    (task : Task) → Asks words task → run.Headline (Ends task source.left) source source_now sink sink_now outcome
+-- The headline: what the words ask for, which is one thing only, and for that what was taken of the source and written
+-- to the sink, the two counts, how the run ended and what caused it.
+pub record Headline (words : List (List ℕ)) (source source_now : SourceView) (sink sink_now : SinkView) (outcome : Outcome) : Type 0 where
+  task : Task
+  asks : Asks words task
+  ran : run.Headline (Ends task source.left) source source_now sink sink_now outcome
 
 -- Where a run is asked for it comes to its end, or memory was wanting: that of a feed where the bytes begin with a whole
 -- one whose redo has no fault, and neither count of faults rose; a realistic one where that of the sink did not rise.

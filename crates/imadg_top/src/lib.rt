@@ -2,6 +2,7 @@
 #![tactic(auto)]
 
 mod kept;
+pub mod law;
 mod top;
 mod words;
 
