@@ -36,9 +36,9 @@ Ends Usage source = UsageEnds
 -- The headline: what the words ask for, which is one thing only, and for that what was taken of the source and written
 -- to the sink, the two counts, how the run ended and what caused it.
 pub record Headline (words : List (List ℕ)) (source source_now : SourceView) (sink sink_now : SinkView) (outcome : Outcome) : Type 0 where
-  task : Task
-  asks : Asks words task
-  ran : run.Headline (Ends task source.left) source source_now sink sink_now outcome
+  pub task : Task
+  pub asks : Asks words task
+  pub ran : run.Headline (Ends task source.left) source source_now sink sink_now outcome
 
 -- Where a run is asked for it comes to its end, or memory was wanting: that of a feed where the bytes begin with a whole
 -- one whose redo has no fault, and neither count of faults rose; a realistic one where that of the sink did not rise.
