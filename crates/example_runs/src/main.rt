@@ -36,28 +36,34 @@ const EXAMPLES: [(&str, u8); 12] = [
     ("cut_short", 2),
 ];
 
+/// The words of a run with one worker.
+const STEP: [&str; 3] = ["step", "--workers", "1"];
+
+/// The words of a realistic run that comes to its ABORT and populates its tables again.
+const SOAK: [&str; 7] = ["soak", "--seed", "1", "--txns", "5000", "--workers", "4"];
+
 /// Schedule bytes, which are put in front of each delivery of a case that prints the same with any.
 const SCHEDULES: [&str; 3] = ["01 01 02", "00*40", "03*20 02*9 01*30"];
 
-/// The words of a plain run.
-fn words_of(alloc: Global, workers: &str) -> io::Result<Vec<String>> {
-    let mut words = Vec::new(alloc);
-    for word in ["step", "--workers", workers] {
-        words.push(format!(in alloc; "{word}")?)?;
+/// Words of their own.
+fn owned(alloc: Global, words: &[&str]) -> io::Result<Vec<String>> {
+    let mut owned = Vec::new(alloc);
+    for word in words {
+        owned.push(format!(in alloc; "{word}")?)?;
     }
-    Ok(words)
+    Ok(owned)
 }
 
-/// Whether the run of a feed ends with this status, and writes this.
+/// Whether a run over a feed ends with this status, and writes this.
 fn ends_so<H: Threads + Wait + Sync>(
     rt: &H,
     alloc: Global,
-    workers: &str,
+    words: &[&str],
     feed: Vec<u8>,
     wanted: (u8, &[u8]),
 ) -> io::Result<bool> {
     let (status, written) = wanted;
-    let words = words_of(alloc, workers)?;
+    let words = owned(alloc, words)?;
     let mut source = MemSource::new(feed, 4_096, Vec::new(alloc));
     let Ok(mut sink) = MemSink::new(alloc, 1_048_576, 4_096, Vec::new(alloc)) else {
         return Err(ErrorKind::OutOfMemory.into());
@@ -82,7 +88,7 @@ fn is_as_stored<H: Files + Alloc<A = Global> + Threads + Wait + Sync>(
     let alloc = rt.alloc();
     let feed = fs::read(rt, format!(in alloc; "{name}.feed")?.as_str())?;
     let stored = fs::read(rt, format!(in alloc; "{name}.out")?.as_str())?;
-    ends_so(rt, alloc, "1", feed, (status, stored.as_slice()))
+    ends_so(rt, alloc, &STEP, feed, (status, stored.as_slice()))
 }
 
 /// The text of a feed with schedule bytes in front of each of its deliveries.
@@ -111,7 +117,8 @@ fn runs_so<H: Threads + Wait + Sync>(
         let Ok(feed) = assemble(alloc, text.as_bytes()) else {
             return Ok(false);
         };
-        if !ends_so(rt, alloc, workers, feed, (case.status, lines))? {
+        let words = ["step", "--workers", *workers];
+        if !ends_so(rt, alloc, &words, feed, (case.status, lines))? {
             return Ok(false);
         }
     }
@@ -168,11 +175,26 @@ fn stops_as_worked<H: Threads + Wait + Sync>(rt: &H, alloc: Global) -> io::Resul
         let lines = format!(in alloc;
             "{CHANGED_LINES}d3 s1 c1 scn={scn} aborted\nd3 end scn={scn}\n{READ_LINES}"
         )?;
-        if !ends_so(rt, alloc, "2", feed, (0, lines.as_bytes()))? {
+        if !ends_so(
+            rt,
+            alloc,
+            &["step", "--workers", "2"],
+            feed,
+            (0, lines.as_bytes()),
+        )? {
             return Ok(false);
         }
     }
     Ok(true)
+}
+
+/// Whether a realistic run writes the summary that is stored. Its feed is not read.
+fn soaks_as_stored<H: Files + Alloc<A = Global> + Threads + Wait + Sync>(
+    rt: &H,
+) -> io::Result<bool> {
+    let alloc = rt.alloc();
+    let stored = fs::read(rt, "soak.out")?;
+    ends_so(rt, alloc, &SOAK, Vec::new(alloc), (0, stored.as_slice()))
 }
 
 /// Says of each example whether it runs as stored, and what there is to say of its text.
@@ -215,6 +237,11 @@ fn main(rt: HostRuntime) -> io::Result<()> {
         println!(rt; "a stop after each of 127 turns: as worked")?;
     } else {
         println!(rt; "a stop after each of 127 turns: another status or other lines")?;
+    }
+    if soaks_as_stored(&rt)? {
+        println!(rt; "a realistic run: as stored")?;
+    } else {
+        println!(rt; "a realistic run: another status or another summary")?;
     }
     Ok(())
 }
