@@ -1,10 +1,10 @@
 //! The run of the program: what a source has is turned into text or into a feed, and written to a
 //! sink.
 
-ghost use Rattle.std.specs.Prelude.{◌≡◌, ◌≢◌, ◌⊎◌, ◌++◌, List, ℕ, Ok, Err, map, string_bytes, IfOk, OnOk};
-ghost use Rattle.std.specs.Io.KnownBytes.{Appends, Consumes, IsAtEnd};
+ghost use Rattle.std.specs.Prelude.{◌≡◌, ◌⊎◌, ◌++◌, List, ℕ, Ok, Err, map, string_bytes, IfOk, OnOk};
+ghost use Rattle.std.specs.Io.KnownBytes.{Consumes, IsAtEnd};
 ghost use Rattle.adg_io.specs.Faults.{Rose};
-ghost use Rattle.feed_text.specs.Run.{RunEnds, TurnEnds, IsTold, code_of, turn_of, reason_text};
+ghost use Rattle.feed_text.specs.Run.{RunEnds, SinkView, TurnEnds, WriteEnds, code_of, reason_text, refusal_text, sink_view, sinks_view, turn_of, usage_text};
 
 use crate::assemble::assemble;
 use crate::reason::Reason;
@@ -17,8 +17,6 @@ use std::alloc::{AllocError, Global};
 
 /// How many bytes are read at once.
 const PIECE_LEN: usize = 65_536;
-
-const USAGE: &str = "usage: imadg_feed assemble|show\n";
 
 /// Which way the input is turned.
 #[derive(Clone, Copy, Debug, PartialEq, Eq)]
@@ -146,12 +144,27 @@ fn words_of(reason: Reason) -> &'static str
     }
 }
 
+/// The line of a text that is refused.
+fn refusal(alloc: Global, number: u64, reason: Reason) -> Result<String, Memory>
+    ensures { IfOk result (λ line. string_bytes line ≡ refusal_text number reason) }
+{
+    let words = words_of(reason);
+    Ok(format!(in alloc; "line {number}: {words}\n")?)
+}
+
+/// The line of words that are refused.
+fn usage() -> &'static str
+    ensures { result.now ≡ usage_text }
+{
+    "usage: imadg_feed assemble|show\n"
+}
+
 /// Writes a piece, and ends so where all of it was written.
 fn write_and_end<K: Sink>(sink: &mut K, piece: &[u8], ended: Ended) -> Ended
-    ensures written { result ≢ Ended.SinkFailed → (result ≡ ended) × Appends (K.held sink.old) (K.held sink.new) piece.now }
-    ensures failed { result ≡ Ended.SinkFailed → (ended ≡ Ended.SinkFailed) ⊎ Rose (K.faults sink.old) (K.faults sink.new) }
+    ensures { WriteEnds (sink_view (K.held sink.old) (K.faults sink.old)) (sink_view (K.held sink.new) (K.faults sink.new)) piece.now ended result }
 {
-    if write_whole(sink, piece).whole {
+    let wrote = write_whole(sink, piece);
+    if wrote.whole {
         ended
     } else {
         Ended::SinkFailed
@@ -160,7 +173,7 @@ fn write_and_end<K: Sink>(sink: &mut K, piece: &[u8], ended: Ended) -> Ended
 
 /// Writes the feed that a text stands for, or the line and the reason why it stands for none.
 fn assemble_to<K: Sink, E: Sink>(alloc: Global, text: &[u8], sink: &mut K, errors: &mut E) -> Ended
-    ensures { TurnEnds Turn.Assemble text.now (K.held sink.old) (K.held sink.new) result }
+    ensures { TurnEnds Turn.Assemble text.now (sinks_view (sink_view (K.held sink.old) (K.faults sink.old)) (sink_view (E.held errors.old) (E.faults errors.old))) (sinks_view (sink_view (K.held sink.new) (K.faults sink.new)) (sink_view (E.held errors.new) (E.faults errors.new))) result }
 {
     match assemble(alloc, text) {
         Ok(feed) => write_and_end(sink, feed.as_slice(), Ended::Done),
@@ -171,10 +184,9 @@ fn assemble_to<K: Sink, E: Sink>(alloc: Global, text: &[u8], sink: &mut K, error
 
 /// Writes why a line of a text is refused.
 fn refuse_line<E: Sink>(alloc: Global, errors: &mut E, number: u64, reason: Reason) -> Ended
-    ensures { IsTold result }
+    ensures { WriteEnds (sink_view (E.held errors.old) (E.faults errors.old)) (sink_view (E.held errors.new) (E.faults errors.new)) (refusal_text number reason) Ended.Refused result ⊎ ((result ≡ Ended.NoMemory) × (errors.new ≡ errors.old)) }
 {
-    let words = words_of(reason);
-    match format!(in alloc; "line {number}: {words}\n") {
+    match refusal(alloc, number, reason) {
         Ok(line) => write_and_end(errors, line.as_bytes(), Ended::Refused),
         Err(_) => Ended::NoMemory,
     }
@@ -182,7 +194,7 @@ fn refuse_line<E: Sink>(alloc: Global, errors: &mut E, number: u64, reason: Reas
 
 /// Writes the text of a feed.
 fn show_to<K: Sink>(alloc: Global, feed: &[u8], sink: &mut K) -> Ended
-    ensures { TurnEnds Turn.Show feed.now (K.held sink.old) (K.held sink.new) result }
+    ensures { (errors : SinkView) → TurnEnds Turn.Show feed.now (sinks_view (sink_view (K.held sink.old) (K.faults sink.old)) errors) (sinks_view (sink_view (K.held sink.new) (K.faults sink.new)) errors) result }
 {
     match show(alloc, feed) {
         Ok(text) => write_and_end(sink, text.as_slice(), Ended::Done),
@@ -199,11 +211,12 @@ pub fn run<R: Source, K: Sink, E: Sink>(
     sink: &mut K,
     errors: &mut E,
 ) -> Ended
-    ensures ends { RunEnds (turn_of (map (λ w. string_bytes w) words.now)) (R.left source.old) (R.left source.new) (K.held sink.old) (K.held sink.new) result }
+    ensures ends { RunEnds (turn_of (map (λ w. string_bytes w) words.now)) (R.left source.old) (R.left source.new) (sinks_view (sink_view (K.held sink.old) (K.faults sink.old)) (sink_view (E.held errors.old) (E.faults errors.old))) (sinks_view (sink_view (K.held sink.new) (K.faults sink.new)) (sink_view (E.held errors.new) (E.faults errors.new))) result }
     ensures source_failed { result ≡ Ended.SourceFailed → Rose (R.faults source.old) (R.faults source.new) }
+    ensures sink_failed { result ≡ Ended.SinkFailed → Rose (K.faults sink.old) (K.faults sink.new) ⊎ Rose (E.faults errors.old) (E.faults errors.new) }
 {
     let Some(turn) = turn_in(words) else {
-        return write_and_end(errors, USAGE.as_bytes(), Ended::Refused);
+        return write_and_end(errors, usage().as_bytes(), Ended::Refused);
     };
     let input = match read_whole(alloc, source) {
         Ok(input) => input,
