@@ -2,7 +2,7 @@ use Rattle.std.proofs.Common.{◌≡◌, ◌≤◌, [], ◌∷◌, length, sym, 
 use Rattle.adg_base.specs.Address.{place, block_places}
 use Rattle.population.specs.Building.{AreRowsOf, Fit}
 use Rattle.population.proofs.Blocks.{all_append}
-use Rattle.population.proofs.Slots.{first_slots, slot_more, all_rows, unwrapped}
+use Rattle.storage_tests.proofs.Slots.{first_slots, slot_more, all_rows, unwrapped}
 use Rattle.storage_tests.proofs.builds.full_block.Goals as goal
 
 pub loop-slot-preserved : goal.loop-slot-preserved

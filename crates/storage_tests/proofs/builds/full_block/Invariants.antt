@@ -1,6 +1,6 @@
 use Rattle.std.proofs.Common.{◌≡◌}
 use Rattle.population.specs.Building.{Fit, addresses_of}
-use Rattle.population.proofs.Slots.{first_slots}
+use Rattle.storage_tests.proofs.Slots.{first_slots}
 use Rattle.storage_tests.proofs.builds.full_block.Given as goal
 
 abbrev pub invariant-loop-slot : goal.invariant-loop-slot

@@ -1,4 +1,4 @@
-use Rattle.population.proofs.Slots.{no_rows}
+use Rattle.storage_tests.proofs.Slots.{no_rows}
 use Rattle.storage_tests.proofs.builds.rows_of.Goals as goal
 
 pub returns-else-full-clause-places : goal.returns-else-full-clause-places
