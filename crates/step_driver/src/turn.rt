@@ -1,8 +1,8 @@
-ghost use Rattle.std.specs.Prelude.{◌≡◌, ℕ, ◌-◌, ◌<◌, ◌^◌, ◌||◌, List, OnOk, OnErr, IfOk};
+ghost use Rattle.std.specs.Prelude.{◌≡◌, ℕ, ◌-◌, ◌<◌, ◌^◌, ◌||◌, true, List, OnOk, OnErr, IfOk};
 ghost use Rattle.core_rules.specs.State.{CoreState};
 ghost use Rattle.dictionary.specs.Standing.{Known, StandsFor};
 ghost use Rattle.turn_rules.specs.Round.{Round};
-ghost use Rattle.turn_rules.specs.Picks.{SessionAt, act_of};
+ghost use Rattle.turn_rules.specs.Picks.{SessionAt, Rests, act_of};
 ghost use Rattle.turn_rules.specs.Turns.{seats_after, is_abort_told};
 ghost use Rattle.standby_core.specs.Shows.{IsState, HasState};
 ghost use Rattle.step_driver.specs.Acts.{act_shown, actor_shown, crew_shown, HasTaken, HasActed};
@@ -11,9 +11,11 @@ ghost use Rattle.step_driver.specs.Rounds.{ShowsRound, GoesOn, IsActor, IsNamed,
 
 use crate::act::{Act, Actor};
 use crate::crew::{coordinator, worker};
+use crate::request::Request;
 use crate::seats::Seats;
 use crate::session::session;
 use adg_base::answer::Reply;
+use adg_base::command::Command;
 use adg_base::memory::Memory;
 use core_rules::event::{CoreAnswer, Event};
 use dictionary::Dictionary;
@@ -64,6 +66,18 @@ fn pick(alloc: Global, core: &Core, seats: &Seats, place: u8) -> Result<Act, Mem
     }
 }
 
+/// Whether the session at a place rests and a look tells so: no request is at hand, or a SYNC that waits.
+/// Most turns of sessions are such.
+fn waits(core: &Core, seats: &Seats, place: u8) -> bool
+    ensures { result ≡ true → (known : Known) (r : Round) → ShowsRound known core.now seats.now r → Rests ≡ act_of r (SessionAt place) }
+{
+    match seats.at_hand(place) {
+        None => true,
+        Some(Request::Asks(Command::Sync)) => core.query_scn() != core.frontier(),
+        Some(_) => false,
+    }
+}
+
 /// Takes up what was told to an actor.
 fn take_up(seats: &mut Seats, actor: Actor, told: Option<Reply>) -> Result<(), Memory>
     requires { IsCounted seats.old }
@@ -83,7 +97,7 @@ fn take_up(seats: &mut Seats, actor: Actor, told: Option<Reply>) -> Result<(), M
     }
 }
 
-/// The coordinator or a worker takes the event that it has picked, if any.
+/// An actor takes the event that it has picked, if any.
 #[inline(always)]
 fn take_crew_turn(
     core: &mut Core,
@@ -160,7 +174,11 @@ pub(crate) fn take_turn(
             take_crew_turn(core, seats, number, actor, event, dictionary)
         }
         Actor::Session(place) => {
-            take_session_turn(alloc, core, seats, number, place, dictionary)
+            if waits(core, seats, place) {
+                take_crew_turn(core, seats, number, actor, None, dictionary)
+            } else {
+                take_session_turn(alloc, core, seats, number, place, dictionary)
+            }
         }
     }
 }
