@@ -9,8 +9,8 @@ use adg_base::shard::SHARDS;
 use std::alloc::Global;
 use std::collections::HashMap;
 
-/// How many places the list may have beside two for each of its ends, halved.
-const ROOM: usize = 32;
+/// How many places the list may have beside two for each end in it.
+const ROOM: usize = 64;
 
 /// A place of the list: free, or with the end of a transaction. The two kinds of end are variants, since
 /// so a place takes 32 bytes.
@@ -133,7 +133,7 @@ fn reach(near: &mut Vec<Near>, used: usize, place: usize) -> Result<(), Memory>
     requires { place < 2 ^ 58 }
     ensures { (k : ℕ) → slice_index_or near.new.items k Near.Free ≡ slice_index_or near.old.items k Near.Free }
 {
-    if near.len() <= place && place / 2 < used.saturating_add(ROOM) {
+    if near.len() <= place && place < used.saturating_mul(2).saturating_add(ROOM) {
         near.resize(place + 1, Near::Free)?;
     }
     Ok(())
