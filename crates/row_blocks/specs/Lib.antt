@@ -4,6 +4,7 @@ pub mod Law
 pub mod Stands
 pub mod Best
 pub mod Block
+pub mod Ends
 pub mod Shard
 pub mod Shards
 pub mod Lent

@@ -7,6 +7,7 @@ use Rattle.row_blocks.specs.declared.version.End.{End}
 use Rattle.row_blocks.specs.declared.shard.Shard.{Shard}
 use Rattle.row_blocks.specs.Versions.{Deed, after_deed, earlier}
 use Rattle.row_blocks.specs.Stands.{Kept, IsSlot}
+use Rattle.row_blocks.specs.Ends.{end_at}
 
 -- whether two blocks, each an object and its number there, are one
 abbrev pub same_block : ℕ × ℕ → ℕ × ℕ → Bool
@@ -22,7 +23,7 @@ shown shard = record {
   number = shard.number;
   applied = shard.applied;
   versions = λ a. at_slot (hash.get same_block shard.blocks (a.obj, a.block)) a.slot;
-  ends = λ t. hash.get nat_eq shard.ends t;
+  ends = λ t. end_at shard.ends t;
 }
 
 -- a deed was done at one place, and nothing else

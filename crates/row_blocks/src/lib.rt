@@ -3,6 +3,7 @@
 #![tactic(auto)]
 
 pub mod block;
+mod ends;
 pub mod law;
 pub mod pick;
 mod several;

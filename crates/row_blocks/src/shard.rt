@@ -6,6 +6,7 @@ ghost use Rattle.row_blocks.specs.Stands.{SameKept, StandsFromStart, StandsForMo
 ghost use Rattle.row_blocks.specs.Shard.{shown, DoesAt, EndsAt, at_slot};
 
 use crate::block::{Block, SLOTS};
+use crate::ends::Ends;
 use crate::version::{End, Version};
 use adg_base::address::Addr;
 use adg_base::list::Duplicate;
@@ -33,7 +34,7 @@ pub struct Shard {
     number: u8,
     applied: Pos,
     blocks: HashMap<(u16, u16), Block>,
-    ends: HashMap<u64, End>,
+    ends: Ends,
 }
 
 impl Shard {
@@ -47,7 +48,7 @@ impl Shard {
             number,
             applied: Pos::new(0),
             blocks: HashMap::new(alloc),
-            ends: HashMap::new(alloc),
+            ends: Ends::new(alloc),
         }
     }
 
@@ -86,7 +87,7 @@ impl Shard {
     pub fn ends(&self, txn: Txn) -> Option<End>
         ensures { result ≡ (shown self.now).ends txn }
     {
-        self.ends.get(&txn.get()).copied()
+        self.ends.get(txn)
     }
 
     /// Applies an entry of this shard, at a position below the last of its type: there the
@@ -168,12 +169,14 @@ impl Shard {
         ensures ok { OnOk result (EndsAt (shown self.old) (shown self.new) txn (record { pos = pos; scn = scn; committed = committed })) }
         ensures err { OnErr result (SameKept (shown self.new) (shown self.old)) }
     {
-        self.ends.entry(txn.get())?.or_insert(End {
-            pos,
-            scn,
-            committed,
-        });
-        Ok(())
+        self.ends.enter(
+            txn,
+            End {
+                pos,
+                scn,
+                committed,
+            },
+        )
     }
 
     /// Adds a version at a slot of a block. A slot of 64 or more is no address, and has none.
