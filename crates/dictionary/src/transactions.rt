@@ -1,10 +1,10 @@
-ghost use Rattle.std.specs.Prelude.{◌≡◌, ℕ, true, false, cond, nat_eq, List, Option, is_some, Some, OnOk, OnErr};
+ghost use Rattle.std.specs.Prelude.{◌≡◌, true, false, List, Option, OnOk, OnErr};
 ghost use Rattle.adg_base.specs.declared.value.Value.{Value as Cell};
 ghost use Rattle.adg_model.specs.Database.{Database, has_change, with_change, with_end};
 ghost use Rattle.adg_model.specs.Database as model;
 ghost use Rattle.adg_model.specs.Sound as sound;
 ghost use Rattle.adg_base.specs.declared.vector.Vector.TheVariants.{Begin, Undo};
-ghost use Rattle.dictionary.specs.Transactions.{TracksIn, running_at};
+ghost use Rattle.dictionary.specs.Transactions.{TracksIn};
 
 use crate::change::{Change, Running};
 use crate::pending::PendingChanges;
