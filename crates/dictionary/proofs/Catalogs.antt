@@ -36,6 +36,11 @@ on_err_weaker {T} {E} r s P Q e f h = subst (λ (x : Result T E). OnErr x Q) (sy
 pub on_err_ok : {T E : Type 0} (r : Result T E) (v : T) (Q : Type 0) → r ≡ Ok v → OnErr r Q
 on_err_ok {T} {E} r v Q e = subst (λ (x : Result T E). OnErr x Q) (sym e) tt
 
+-- what holds anyway holds where there is an error
+pub on_err_always : {T E : Type 0} (r : Result T E) (Q : Type 0) → Q → OnErr r Q
+on_err_always (Ok v) Q q = tt
+on_err_always (Err v) Q q = q
+
 -- a step is added to what an object had
 pub adds_step : (old inside new : List (ℕ × List Step)) (obj : ℕ) (step : Step) (had made : List Step) → inside ≡ old → had ≡ steps_of inside obj → made ≡ had ++ step ∷ []
     → ((q : ℕ) → lookup (nat_eq q) new ≡ cond (nat_eq obj q) (Some made) (lookup (nat_eq q) inside)) → AddsStep old new obj step

@@ -9,6 +9,7 @@ use adg_base::memory::Memory;
 use adg_base::number::Txn;
 use std::alloc::Global;
 use std::collections::HashMap;
+use std::collections::hash_map::Entry;
 use std::marker::Model;
 
 /// The pending changes of all transactions, counted at each address.
@@ -55,20 +56,18 @@ impl PendingChanges {
         ensures ok { OnOk result (SetsAt self.old self.new change (Some (one_more earlier (kept_at self.old change)))) }
         ensures err { OnErr result (self.new ≡ self.old) }
     {
-        match self.kept.get(&change).copied() {
-            Some(pending) => {
-                let count = pending.count.checked_add(1).ok_or(Memory)?;
-                self.kept.insert(
-                    change,
-                    Pending {
-                        count,
-                        earlier: pending.earlier,
-                    },
-                )?;
+        match self.kept.entry(change)? {
+            Entry::Occupied(mut held) => {
+                let was = *held.get();
+                let count = was.count.checked_add(1).ok_or(Memory)?;
+                held.insert(Pending {
+                    count,
+                    earlier: was.earlier,
+                });
                 Ok(false)
             }
-            None => {
-                self.kept.insert(change, Pending { count: 1, earlier })?;
+            Entry::Vacant(free) => {
+                free.insert_entry(Pending { count: 1, earlier });
                 Ok(true)
             }
         }

@@ -1,10 +1,10 @@
-ghost use Rattle.std.specs.Prelude.{◌≡◌, ℕ, true, false, cond, nat_eq, List, Option, is_some, Some, OnOk, OnErr};
+ghost use Rattle.std.specs.Prelude.{◌≡◌, true, false, List, Option, OnOk, OnErr};
 ghost use Rattle.adg_base.specs.declared.value.Value.{Value as Cell};
 ghost use Rattle.adg_model.specs.Database.{Database, has_change, with_change, with_end};
 ghost use Rattle.adg_model.specs.Database as model;
 ghost use Rattle.adg_model.specs.Sound as sound;
 ghost use Rattle.adg_base.specs.declared.vector.Vector.TheVariants.{Begin, Undo};
-ghost use Rattle.dictionary.specs.Transactions.{TracksIn, running_at};
+ghost use Rattle.dictionary.specs.Transactions.{TracksIn};
 
 use crate::change::{Change, Running};
 use crate::pending::PendingChanges;
@@ -94,26 +94,15 @@ impl Transactions {
             → in_memory ≡ model.is_in_memory (db.tables addr.obj) → TracksIn self.new (with_change db txn (record { at = addr; row = row }))) }
         ensures err { OnErr result (self.new ≡ self.old) }
     {
-        let Some(running) = self.running.get(&txn).copied() else {
+        let Some(running) = self.running.get_mut(&txn) else {
             return Ok(());
         };
         let is_new = self.pending.add(Change { txn, addr }, running.latest)?;
-        let noted = running.noted || in_memory;
-        let latest = if is_new { Some(addr) } else { running.latest };
-        self.keep(txn, Running { noted, latest });
-        Ok(())
-    }
-
-    /// Keeps something else of a running transaction.
-    fn keep(&mut self, txn: Txn, running: Running)
-        ensures running { is_some (running_at self.old txn) ≡ true →
-            (q : ℕ) → running_at self.new q ≡ cond (nat_eq txn q) (Some running) (running_at self.old q) }
-        ensures ended { self.new.ended ≡ self.old.ended }
-        ensures pending { self.new.pending ≡ self.old.pending }
-    {
-        if let Some(kept) = self.running.get_mut(&txn) {
-            *kept = running;
+        running.noted = running.noted || in_memory;
+        if is_new {
+            running.latest = Some(addr);
         }
+        Ok(())
     }
 
     /// Strikes the latest pending change of a running transaction at an address.
