@@ -1,4 +1,5 @@
-ghost use Rattle.std.specs.Prelude.{◌≡◌, ℕ, ◌<◌, ◌/◌, ◌==◌, ◌^◌, if◌then◌else◌, true, length, slice_index_or, Some, None, OnOk, OnErr};
+ghost use Rattle.std.specs.Prelude.{◌≡◌, ℕ, ◌<◌, ◌/◌, ◌==◌, ◌^◌, if◌then◌else◌, true, length, slice_index_or, nat_eq, Some, None, OnOk, OnErr};
+ghost use Rattle.std.specs.HashMap.{get};
 ghost use Rattle.row_blocks.specs.Versions.{earlier};
 ghost use Rattle.row_blocks.specs.Ends.{near_end, end_at};
 
@@ -86,7 +87,7 @@ impl Ends {
     {
         match end_near(&self.near, txn) {
             Some(end) => Some(end),
-            None => self.far.get(&txn.get()).copied(),
+            None => end_far(&self.far, txn),
         }
     }
 
@@ -124,6 +125,21 @@ fn end_near(near: &[Near], txn: Txn) -> Option<End>
 {
     match near.get(place_of(txn)) {
         Some(place) => place.end(txn),
+        None => None,
+    }
+}
+
+/// The end that the map has for a transaction. It is made anew of its parts, as `Near::end` does: so no
+/// bytes between the parts are copied, which costs more than the look-up.
+fn end_far(far: &HashMap<u64, End>, txn: Txn) -> Option<End>
+    ensures { result ≡ get nat_eq far.now txn }
+{
+    match far.get(&txn.get()) {
+        Some(end) => Some(End {
+            pos: end.pos,
+            scn: end.scn,
+            committed: end.committed,
+        }),
         None => None,
     }
 }
