@@ -1,8 +1,10 @@
 ghost use Rattle.std.specs.Prelude.{◌≡◌, ℕ, ◌<◌, ◌/◌, ◌==◌, ◌^◌, if◌then◌else◌, true, length, slice_index_or, nat_eq, Some, None, OnOk, OnErr};
 ghost use Rattle.std.specs.HashMap.{get};
 ghost use Rattle.row_blocks.specs.Versions.{earlier};
+ghost use Rattle.row_blocks.specs.Pick.{counted};
 ghost use Rattle.row_blocks.specs.Ends.{near_end, end_at};
 
+use crate::pick::commit_upto;
 use crate::version::End;
 use adg_base::memory::Memory;
 use adg_base::number::{Pos, Scn, Txn};
@@ -91,6 +93,17 @@ impl Ends {
         }
     }
 
+    /// Where a transaction committed that counts at `q`. It hands no end out, since copying one costs
+    /// more than the look-up.
+    pub(crate) fn commit_upto(&self, txn: Txn, q: Scn) -> Option<u64>
+        ensures { result ≡ counted q (end_at self.now txn) }
+    {
+        match end_near(&self.near, txn) {
+            Some(end) => commit_upto(Some(end), q),
+            None => commit_upto(end_far(&self.far, txn), q),
+        }
+    }
+
     /// Keeps the end of a transaction, unless there is one.
     pub(crate) fn enter(&mut self, txn: Txn, end: End) -> Result<(), Memory>
         ensures ok { OnOk result ((t : ℕ) → end_at self.new t ≡ earlier (end_at self.old t) (if txn == t then Some end else None)) }
@@ -129,8 +142,7 @@ fn end_near(near: &[Near], txn: Txn) -> Option<End>
     }
 }
 
-/// The end that the map has for a transaction. It is made anew of its parts, as `Near::end` does: so no
-/// bytes between the parts are copied, which costs more than the look-up.
+/// The end that the map has for a transaction.
 fn end_far(far: &HashMap<u64, End>, txn: Txn) -> Option<End>
     ensures { result ≡ get nat_eq far.now txn }
 {
