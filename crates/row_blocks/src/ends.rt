@@ -1,7 +1,10 @@
-ghost use Rattle.std.specs.Prelude.{◌≡◌, ℕ, ◌<◌, ◌/◌, ◌==◌, ◌^◌, if◌then◌else◌, true, length, slice_index_or, Some, None, OnOk, OnErr};
+ghost use Rattle.std.specs.Prelude.{◌≡◌, ℕ, ◌<◌, ◌/◌, ◌==◌, ◌^◌, if◌then◌else◌, true, length, slice_index_or, nat_eq, Some, None, OnOk, OnErr};
+ghost use Rattle.std.specs.HashMap.{get};
 ghost use Rattle.row_blocks.specs.Versions.{earlier};
+ghost use Rattle.row_blocks.specs.Pick.{counted};
 ghost use Rattle.row_blocks.specs.Ends.{near_end, end_at};
 
+use crate::pick::commit_upto;
 use crate::version::End;
 use adg_base::memory::Memory;
 use adg_base::number::{Pos, Scn, Txn};
@@ -86,7 +89,18 @@ impl Ends {
     {
         match end_near(&self.near, txn) {
             Some(end) => Some(end),
-            None => self.far.get(&txn.get()).copied(),
+            None => end_far(&self.far, txn),
+        }
+    }
+
+    /// Where a transaction committed that counts at `q`. It hands no end out, since copying one costs
+    /// more than the look-up.
+    pub(crate) fn commit_upto(&self, txn: Txn, q: Scn) -> Option<u64>
+        ensures { result ≡ counted q (end_at self.now txn) }
+    {
+        match end_near(&self.near, txn) {
+            Some(end) => commit_upto(Some(end), q),
+            None => commit_upto(end_far(&self.far, txn), q),
         }
     }
 
@@ -124,6 +138,20 @@ fn end_near(near: &[Near], txn: Txn) -> Option<End>
 {
     match near.get(place_of(txn)) {
         Some(place) => place.end(txn),
+        None => None,
+    }
+}
+
+/// The end that the map has for a transaction.
+fn end_far(far: &HashMap<u64, End>, txn: Txn) -> Option<End>
+    ensures { result ≡ get nat_eq far.now txn }
+{
+    match far.get(&txn.get()) {
+        Some(end) => Some(End {
+            pos: end.pos,
+            scn: end.scn,
+            committed: end.committed,
+        }),
         None => None,
     }
 }

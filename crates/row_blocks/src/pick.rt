@@ -18,7 +18,7 @@ pub(crate) struct Best<'a> {
 }
 
 /// The position of an end that is a commit with an SCN up to `q`.
-fn commit_upto(end: Option<End>, q: Scn) -> Option<u64>
+pub(crate) fn commit_upto(end: Option<End>, q: Scn) -> Option<u64>
     ensures { result ≡ counted q end }
 {
     match end {
@@ -28,7 +28,7 @@ fn commit_upto(end: Option<End>, q: Scn) -> Option<u64>
 }
 
 /// The later of the best so far and a version with the end of its transaction.
-pub(crate) fn with_version<'a>(
+fn with_version<'a>(
     best: Option<Best<'a>>,
     version: &'a Version,
     end: Option<End>,
@@ -36,7 +36,18 @@ pub(crate) fn with_version<'a>(
 ) -> Option<Best<'a>>
     ensures { shown result ≡ later (shown best.entry) (candidate version.now (counted q end)) }
 {
-    let Some(commit) = commit_upto(end, q) else {
+    with_commit(best, version, commit_upto(end, q))
+}
+
+/// The later of the best so far and a version whose transaction committed there, where it counts.
+pub(crate) fn with_commit<'a>(
+    best: Option<Best<'a>>,
+    version: &'a Version,
+    commit: Option<u64>,
+) -> Option<Best<'a>>
+    ensures { shown result ≡ later (shown best.entry) (candidate version.now commit) }
+{
+    let Some(commit) = commit else {
         return best;
     };
     if version.struck {

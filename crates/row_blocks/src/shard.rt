@@ -3,6 +3,7 @@ ghost use Rattle.adg_base.specs.Shard.{shard_of_vector};
 ghost use Rattle.adg_base.specs.Address.{place};
 ghost use Rattle.row_blocks.specs.Versions.{Makes, Strikes};
 ghost use Rattle.row_blocks.specs.Stands.{SameKept, StandsFromStart, StandsForMore, with_entry, after_entry, none_kept};
+ghost use Rattle.row_blocks.specs.Pick.{counted};
 ghost use Rattle.row_blocks.specs.Shard.{shown, DoesAt, EndsAt, at_slot};
 
 use crate::block::{Block, SLOTS};
@@ -88,6 +89,13 @@ impl Shard {
         ensures { result ≡ (shown self.now).ends txn }
     {
         self.ends.get(txn)
+    }
+
+    /// Where a transaction committed that counts at `q`.
+    pub(crate) fn commit_upto(&self, txn: Txn, q: Scn) -> Option<u64>
+        ensures { result ≡ counted q ((shown self.now).ends txn) }
+    {
+        self.ends.commit_upto(txn, q)
     }
 
     /// Applies an entry of this shard, at a position below the last of its type: there the

@@ -9,7 +9,7 @@ ghost use Rattle.row_blocks.specs.Shards.{shards_in, versions_in, end_in, commit
 ghost use Rattle.row_blocks.specs.Lent.{lent, rows_in_slots};
 
 use crate::block::{Block, SLOTS};
-use crate::pick::{Best, told, with_version};
+use crate::pick::{Best, told, with_commit};
 use crate::shard::Shard;
 use crate::version::{End, Version};
 use adg_base::address::Addr;
@@ -38,6 +38,14 @@ pub fn end_of(shards: &[Shard], txn: Txn) -> Option<End>
     shards[txn_shard(txn) as usize].ends(txn)
 }
 
+/// Where a transaction committed that counts at `q`, from its shard among the 64.
+fn commit_of(shards: &[Shard], txn: Txn, q: Scn) -> Option<u64>
+    requires { length shards.now ≡ 64 }
+    ensures { result ≡ commits_in (shards_in shards.now) q txn }
+{
+    shards[txn_shard(txn) as usize].commit_upto(txn, q)
+}
+
 /// The later of the best so far and a version. For a struck version no end is looked up.
 fn with_version_of<'a>(
     best: Option<Best<'a>>,
@@ -51,7 +59,7 @@ fn with_version_of<'a>(
     if version.struck {
         best
     } else {
-        with_version(best, version, end_of(shards, version.txn), q)
+        with_commit(best, version, commit_of(shards, version.txn, q))
     }
 }
 
