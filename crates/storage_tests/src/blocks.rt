@@ -266,6 +266,66 @@ fn assert_apart<L: Ledger>(
     Ok(())
 }
 
+/// Transactions whose numbers lie far above those of all others. The second end of one is no end.
+static DISTANT: [(u64, u64, Deed); 5] = [
+    (11, 64_001, Put(1)),
+    (12, 64_001, Commit),
+    (13, 320_001, Put(2)),
+    (13, 320_001, Aborts),
+    (13, 64_001, Aborts),
+];
+
+static DISTANT_ROWS: [(u64, Option<i64>); 3] = [(11, None), (12, Some(1)), (13, Some(1))];
+
+/// The end that shard 1 has for a transaction.
+fn end_in_first(shards: &[Shard], txn: u64) -> Result<Option<End>, Fail> {
+    let shard = shards.get(1).ok_or("shard")?;
+    Ok(shard.ends(Txn::new(txn).ok_or("txn")?))
+}
+
+fn assert_distant<L: Ledger>(
+    rt: &impl Abort,
+    alloc: Global,
+    entries: &[LogEntry],
+    steps: &mut Steps<L>,
+) -> Result<(), Fail> {
+    let shards = applied(alloc, entries)?;
+    assert!(rt; end_in_first(&shards, 64_001)? == Some(end(1, 12, true)?));
+    assert!(rt; end_in_first(&shards, 320_001)? == Some(end(3, 13, false)?));
+    assert!(rt; end_in_first(&shards, 128_001)? == None);
+    for (q, number) in &DISTANT_ROWS {
+        assert!(rt;
+            number_at(rt, alloc, &shards, *q, steps)? == *number,
+            "at {q}"
+        );
+    }
+    for (pos, entry) in entries.iter().enumerate().skip(DISTANT.len()) {
+        let txn = match &entry.vector {
+            Vector::Commit { txn, .. } => txn.get(),
+            _ => Err("a commit")?,
+        };
+        assert!(rt; end_in_first(&shards, txn)? == Some(end(pos as u64, 14, true)?));
+    }
+    Ok(())
+}
+
+/// Ends of distant transactions are found where they stand alone, and behind 1,100 of the same shard
+/// that are numbered from the first on and pass one of them.
+fn assert_distant_ends<L: Ledger>(
+    rt: &impl Abort,
+    alloc: Global,
+    steps: &mut Steps<L>,
+) -> Result<(), Fail> {
+    let mut entries = log(alloc, &DISTANT)?;
+    assert_distant(rt, alloc, &entries, steps)?;
+    for place in (0..1_100u64).filter(|place| *place != 1_000) {
+        let pos = entries.len() as u64;
+        let txn = place.wrapping_mul(64).wrapping_add(1);
+        entries.push(entry(pos, 14, vector(alloc, txn, Commit)?)?)?;
+    }
+    assert_distant(rt, alloc, &entries, steps)
+}
+
 /// The row of a version and whether it is struck, and its transaction's end: the position, the SCN
 /// and whether it is a commit.
 #[derive(Clone, Copy)]
@@ -457,6 +517,7 @@ fn assert_rows<L: Ledger>(rt: &impl Abort, alloc: Global, blank: Blank) -> Resul
     }
     assert_deep_redo(rt, alloc, &mut steps)?;
     assert_apart(rt, alloc, &mut steps)?;
+    assert_distant_ends(rt, alloc, &mut steps)?;
     assert_picks(rt, alloc, &mut steps)?;
     assert!(rt; !pick_none(&mut steps));
     Ok(())
