@@ -8,3 +8,4 @@ pub mod Slots
 pub mod Together
 pub mod ShardLists
 pub mod Lending
+pub mod Held

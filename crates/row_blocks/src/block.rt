@@ -1,6 +1,8 @@
-ghost use Rattle.std.specs.Prelude.{◌≡◌, ℕ, ◌<◌, [], ◌∷◌, ◌++◌, IfOk, OnOk, OnErr, slice_index_or};
+ghost use Rattle.std.specs.Prelude.{◌≡◌, ℕ, ◌<◌, ◌≤◌, [], ◌∷◌, ◌++◌, length, set, OnOk, OnErr, slice_index_or};
+ghost use Rattle.row_blocks.specs.declared.block.Slot.TheVariants.{One};
 ghost use Rattle.row_blocks.specs.Versions.{strike};
 ghost use Rattle.row_blocks.specs.Block.{SetsSlot};
+ghost use Rattle.row_blocks.specs.Held.{list_of, number_of, AreKept, IsPlaceOf};
 
 use crate::several::Several;
 use crate::version::Version;
@@ -17,80 +19,68 @@ pub const SLOTS: u8 = 64;
 /// How many versions a list has room for when an address gets its second.
 const ROOM: usize = 4;
 
-/// The versions at an address, the earliest first. Most addresses get no more than one, which needs no
-/// list of its own.
+/// A slot that has versions: its number, and the versions, the earliest first. Most addresses get no
+/// more than one, which needs no list of its own.
 #[derive(Drop)]
-enum Versions {
-    None,
-    One(Version),
-    Many(Several),
+enum Slot {
+    One { number: u8, version: Version },
+    Many { number: u8, versions: Several },
 }
 
-/// The versions at an address.
-#[derive(Drop)]
-struct Slot {
-    alloc: Global,
-    versions: Versions,
-}
-
-impl Model for Slot {
-    ghost use Rattle.std.specs.Prelude.{List};
-    ghost use Rattle.row_blocks.specs.declared.version.Version.{Version};
-    ghost use Rattle.row_blocks.specs.Held.{list_of};
-
-    ghost Value = { List Version };
-
-    ghost view = { λ s. list_of s.versions };
-}
+const _: () = prove!(size_of::<Slot>() == 48);
 
 impl Slot {
-    fn new(alloc: Global) -> Slot
-        ensures { result ≡ [] }
+    fn number(&self) -> u8
+        ensures { result ≡ number_of self.now }
     {
-        Slot {
-            alloc,
-            versions: Versions::None,
+        match self {
+            Slot::One { number, .. } | Slot::Many { number, .. } => *number,
         }
     }
 
     fn as_slice(&self) -> &[Version]
-        ensures { result.now ≡ self.now }
+        ensures { result.now ≡ list_of self.now }
     {
-        match &self.versions {
-            Versions::None => &[],
-            Versions::One(version) => from_ref(version),
-            Versions::Many(list) => list.as_slice(),
+        match self {
+            Slot::One { version, .. } => from_ref(version),
+            Slot::Many { versions, .. } => versions.as_slice(),
         }
     }
 
     /// Adds a version. The second takes room for some more.
-    fn push(&mut self, version: Version) -> Result<(), Memory>
-        ensures ok { OnOk result (self.new ≡ self.old ++ version ∷ []) }
+    fn push(&mut self, alloc: Global, version: Version) -> Result<(), Memory>
+        ensures number { number_of self.new ≡ number_of self.old }
+        ensures ok { OnOk result (list_of self.new ≡ list_of self.old ++ version ∷ []) }
         ensures err { OnErr result (self.new ≡ self.old) }
     {
-        match &mut self.versions {
-            Versions::None => self.versions = Versions::One(version),
-            Versions::One(_) => {
-                let mut list = Vec::with_capacity(self.alloc, ROOM)?;
-                if let Versions::One(first) = replace(&mut self.versions, Versions::None) {
+        match self {
+            Slot::One { number, .. } => {
+                let number = *number;
+                let mut list = Vec::with_capacity(alloc, ROOM)?;
+                let versions = Several::of(Vec::new(alloc));
+                if let Slot::One { version: first, .. } = replace(
+                    self,
+                    Slot::Many { number, versions },
+                ) {
                     list.push_reserved(first);
                 }
                 list.push_reserved(version);
-                self.versions = Versions::Many(Several::of(list));
+                let versions = Several::of(list);
+                *self = Slot::Many { number, versions };
+                Ok(())
             }
-            Versions::Many(list) => list.push(version)?,
+            Slot::Many { versions, .. } => versions.push(version),
         }
-        Ok(())
     }
 
     /// Strikes the latest version of a transaction that is not struck.
     fn strike(&mut self, txn: Txn)
-        ensures { self.new ≡ strike txn self.old }
+        ensures number { number_of self.new ≡ number_of self.old }
+        ensures versions { list_of self.new ≡ strike txn (list_of self.old) }
     {
-        match &mut self.versions {
-            Versions::None => {}
-            Versions::One(version) => strike_one(version, txn),
-            Versions::Many(list) => list.strike(txn),
+        match self {
+            Slot::One { version, .. } => strike_one(version, txn),
+            Slot::Many { versions, .. } => versions.strike(txn),
         }
     }
 }
@@ -104,33 +94,39 @@ fn strike_one(version: &mut Version, txn: Txn)
     }
 }
 
-/// The versions at each of the 64 slots of a block.
+/// The versions at each of the 64 slots of a block. The slots that have some lie together, in the order
+/// in which they got their first, so that a block takes memory for those alone. For each slot a place
+/// among them is kept; it tells nothing where another slot lies there.
 #[derive(Drop)]
 pub struct Block {
-    slots: Vec<Slot>,
+    alloc: Global,
+    places: [u8; 64],
+    used: Vec<Slot>,
 }
 
 impl Model for Block {
     ghost use Rattle.std.specs.Prelude.{◌≡◌, List, length};
     ghost use Rattle.row_blocks.specs.declared.version.Version.{Version};
+    ghost use Rattle.row_blocks.specs.Held.{slots_from, AreKept};
 
     ghost Value = { List (List Version) };
 
-    ghost view = { λ b. b.slots.items };
+    ghost view = { λ b. slots_from 0 b.used.items b.places };
 
-    ghost invariant = { λ b. length b.slots.items ≡ 64 };
+    ghost invariant = { λ b. (length b.places ≡ 64) × AreKept b.places b.used.items };
 }
 
 impl Block {
     /// A block without versions.
-    pub(crate) fn new(alloc: Global) -> Result<Block, Memory>
-        ensures { IfOk result (λ block. (slot : ℕ) → slice_index_or block slot [] ≡ []) }
+    #[tactic(auto, using(crate::proofs::Held::empty_block))]
+    pub(crate) fn new(alloc: Global) -> Block
+        ensures { (slot : ℕ) → slice_index_or result slot [] ≡ [] }
     {
-        let mut slots = Vec::with_capacity(alloc, SLOTS as usize)?;
-        for _ in 0..SLOTS {
-            slots.push(Slot::new(alloc))?;
+        Block {
+            alloc,
+            places: [0; 64],
+            used: Vec::new(alloc),
         }
-        Ok(Block { slots })
     }
 
     /// The versions at a slot, the earliest first.
@@ -138,7 +134,10 @@ impl Block {
         requires { slot < 64 }
         ensures { result.now ≡ slice_index_or self.now slot [] }
     {
-        self.slots[slot as usize].as_slice()
+        match place_of(&self.places, &self.used, slot) {
+            Some(place) => self.used[place].as_slice(),
+            None => &[],
+        }
     }
 
     /// Adds a version at a slot.
@@ -147,7 +146,10 @@ impl Block {
         ensures ok { OnOk result (SetsSlot self.old self.new slot (slice_index_or self.old slot [] ++ version ∷ [])) }
         ensures err { OnErr result (self.new ≡ self.old) }
     {
-        self.slots[slot as usize].push(version)
+        match place_of(&self.places, &self.used, slot) {
+            Some(place) => self.used[place].push(self.alloc, version),
+            None => open(&mut self.places, &mut self.used, slot, version),
+        }
     }
 
     /// Strikes the latest version of a transaction at a slot that is not struck.
@@ -155,6 +157,40 @@ impl Block {
         requires { slot < 64 }
         ensures { SetsSlot self.old self.new slot (strike txn (slice_index_or self.old slot [])) }
     {
-        self.slots[slot as usize].strike(txn);
+        if let Some(place) = place_of(&self.places, &self.used, slot) {
+            self.used[place].strike(txn);
+        }
     }
+}
+
+/// The place of a slot among those in use, where it is one of them.
+fn place_of(places: &[u8; 64], used: &[Slot], slot: u8) -> Option<usize>
+    requires within { slot < 64 }
+    requires kept { AreKept places.now used.now }
+    ensures { IsPlaceOf slot places.now used.now result }
+{
+    let place = usize::from(places[usize::from(slot)]);
+    match used.get(place) {
+        Some(found) if found.number() == slot => Some(place),
+        _ => None,
+    }
+}
+
+/// A slot that is not in use gets its first version.
+fn open(
+    places: &mut [u8; 64],
+    used: &mut Vec<Slot>,
+    number: u8,
+    version: Version,
+) -> Result<(), Memory>
+    requires within { number < 64 }
+    requires few { length used.old.items ≤ 64 }
+    ensures places { OnOk result (places.new ≡ set places.old number (length used.old.items)) }
+    ensures used { OnOk result (used.new.items ≡ used.old.items ++ One number version ∷ []) }
+    ensures err { OnErr result ((places.new ≡ places.old) × (used.new.items ≡ used.old.items)) }
+{
+    let place = used.len() as u8;
+    used.push(Slot::One { number, version })?;
+    places[usize::from(number)] = place;
+    Ok(())
 }

@@ -200,7 +200,7 @@ impl Shard {
         if let Some(known) = self.blocks.get_mut(&key) {
             return known.push(slot, version);
         }
-        let mut fresh = Block::new(self.alloc)?;
+        let mut fresh = Block::new(self.alloc);
         fresh.push(slot, version)?;
         self.blocks.insert(key, fresh)?;
         Ok(())

@@ -51,5 +51,5 @@ returns-clause-ok c =
     subst (λ (k : ℕ). SetsBlock (k, b) (hash.get same_block from) (hash.get same_block to) slots) c.get.ensures.value
     (λ q. c.in_ok-insert.ensures.updates.0 q ∙ ap (λ m. cond (same_block (c.get.result, b) q) (Some slots) (hash.get same_block m q)) c.get_mut.follows.holds-at-none) in
     does_at (shown c.args.self.now) _ o b c.args.slot v.pos (Makes v.txn v.row) (hash.get same_block from) (hash.get same_block to) slots refl refl (λ t. refl) (λ a. refl) (λ a. refl) sets
-    (fresh_slot (o, b) (hash.get same_block from) c.args.slot v.pos (Makes v.txn v.row) c.in_ok-fresh.fresh slots _ missing c.in_ok-fresh.ensures c.in_ok-push.ensures.ok
-    (ap (λ x. slice_index_or c.in_ok-fresh.fresh c.args.slot [] ++ x ∷ []) (not_struck v c.requires)))
+    (fresh_slot (o, b) (hash.get same_block from) c.args.slot v.pos (Makes v.txn v.row) c.new-fresh.result slots _ missing c.new-fresh.ensures c.in_ok-push.ensures.ok
+    (ap (λ x. slice_index_or c.new-fresh.result c.args.slot [] ++ x ∷ []) (not_struck v c.requires)))
