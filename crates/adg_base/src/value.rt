@@ -22,6 +22,8 @@ pub enum Value {
     Text(Text),
 }
 
+const _: () = prove!(size_of::<Value>() == 24);
+
 impl Duplicate for ColKind {
     fn copy(&self, _alloc: Global) -> Result<ColKind, Memory> {
         Ok(*self)
