@@ -1,9 +1,10 @@
 ghost use Rattle.std.specs.Prelude.{◌≡◌, ◌≤◌, ◌<◌, length};
 
+use std::fmt;
 use std::marker::Model;
 
 /// At most `N` bytes, which lie in the value itself.
-#[derive(Debug, Drop)]
+#[derive(Drop)]
 pub(crate) struct Piece<const N: usize> {
     len: u8,
     bytes: [u8; N],
@@ -50,5 +51,11 @@ impl<const N: usize> Piece<N> {
         ensures { result.now ≡ self.now }
     {
         &self.bytes[..usize::from(self.len)]
+    }
+}
+
+impl<const N: usize> fmt::Debug for Piece<N> {
+    fn fmt<W: fmt::Write>(&self, f: &mut fmt::Formatter<W>) -> fmt::Result {
+        f.debug_list().entries(self.as_slice()).finish()
     }
 }
