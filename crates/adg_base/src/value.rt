@@ -24,6 +24,7 @@ pub enum Value {
 
 const _: () = prove!(size_of::<Value>() == 24);
 
+/// What stands in the places of a row that are free.
 impl Default for Value {
     ghost use Rattle.adg_base.specs.declared.value.Value.TheVariants.{Null};
     ghost use Rattle.std.specs.Prelude.{◌≡◌};
