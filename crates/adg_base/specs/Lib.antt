@@ -1,5 +1,6 @@
 pub mod Address
 pub mod Area
+pub mod Held
 pub mod Shard
 pub mod Text
 pub mod Values

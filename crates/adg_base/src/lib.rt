@@ -11,6 +11,7 @@ pub mod log;
 pub mod memory;
 pub mod node;
 pub mod number;
+mod piece;
 pub mod placed;
 pub mod row;
 pub mod shard;

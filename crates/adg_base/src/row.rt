@@ -1,18 +1,22 @@
-ghost use Rattle.std.specs.Prelude.{◌≡◌, IfOk, length};
+ghost use Rattle.std.specs.Prelude.{◌≡◌, ◌≤◌, IfOk, length};
 
 use crate::list::{Duplicate, List};
 use crate::memory::Memory;
 use crate::value::Value;
+use smallvec::SmallVec;
 use std::alloc::Global;
 use std::marker::Model;
 use std::sync::Arc;
 
+/// The most values of a row that lie beside its count.
+const FEW: usize = 4;
+
 /// A row: one value for each of its columns. Contracts see the list of its values. The values are
 /// held once, however many copies there are: a copy costs a count, whatever the row holds, and can
-/// go to another thread.
+/// go to another thread. Most rows have few values, which lie in one piece of memory with the count.
 #[derive(Debug, Drop)]
 pub struct Row {
-    values: Arc<Vec<Value>>,
+    values: Arc<SmallVec<Value, FEW>>,
 }
 
 /// A list of rows.
@@ -27,12 +31,25 @@ impl Model for Row {
     ghost view = { λ r. r.values.value.items };
 }
 
+/// The same values, four and fewer moved out of the memory of the `Vec`.
+fn few_inline(values: Vec<Value>) -> SmallVec<Value, FEW>
+    ensures items { result.items ≡ values.items }
+    ensures few { length values.items ≤ 4 → result.capacity ≡ 4 }
+{
+    let few = values.len() <= FEW;
+    let mut values = SmallVec::from_vec(values);
+    if few {
+        values.shrink_to_fit();
+    }
+    values
+}
+
 impl Row {
     /// The row of these values.
     pub fn from_vec(alloc: Global, values: Vec<Value>) -> Result<Row, Memory>
         ensures { IfOk result (λ row. row ≡ values.items) }
     {
-        let values = Arc::new(alloc, values)?;
+        let values = Arc::new(alloc, few_inline(values))?;
         Ok(Row { values })
     }
 

@@ -1,30 +1,44 @@
-ghost use Rattle.std.specs.Prelude.{◌≡◌, ◌≤◌, length, IfOk, OnOk};
+ghost use Rattle.std.specs.Prelude.{◌≡◌, ◌≤◌, length, IsOk, IfOk, OnOk};
 ghost use Rattle.std.specs.List.{list_all};
 ghost use Rattle.adg_base.specs.Text.{IsText, is_text, is_text_byte};
 
 use crate::list::Duplicate;
 use crate::memory::Memory;
+use crate::piece::Piece;
 use std::alloc::Global;
 use std::marker::Model;
 
 /// The most bytes of a text.
 pub const MOST_TEXT_BYTES: usize = 64;
 
-/// A text value: at most 64 printable ASCII bytes without `'` and `|`.
+/// The most bytes of a text that lie in the text itself.
+const MOST_SHORT_BYTES: usize = 14;
+
+/// Where the bytes of a text lie. Most texts are short, and take no memory of their own.
+#[derive(Debug, Drop)]
+enum Held {
+    Short(Piece<MOST_SHORT_BYTES>),
+    Long(Box<Piece<MOST_TEXT_BYTES>>),
+}
+
+/// A text value: at most 64 printable ASCII bytes without `'` and `|`. Contracts see its bytes.
 #[derive(Debug, Drop)]
 pub struct Text {
-    bytes: Vec<u8>,
+    held: Held,
 }
+
+const _: () = prove!(size_of::<Text>() == 16);
 
 impl Model for Text {
     ghost use Rattle.std.specs.Prelude.{ℕ, List};
     ghost use Rattle.adg_base.specs.Text.{IsText};
+    ghost use Rattle.adg_base.specs.Held.{held_bytes};
 
     ghost Value = { List ℕ };
 
-    ghost view = { λ t. t.bytes.items };
+    ghost view = { λ t. held_bytes t.held };
 
-    ghost invariant = { λ t. IsText t.bytes.items };
+    ghost invariant = { λ t. IsText (held_bytes t.held) };
 }
 
 /// Why bytes are no text.
@@ -48,6 +62,44 @@ fn are_allowed(bytes: &[u8]) -> bool
     bytes.iter().all(|byte| is_allowed(*byte))
 }
 
+impl Held {
+    ghost use Rattle.adg_base.specs.Held.{held_bytes};
+
+    /// It takes memory only for more than 14 bytes.
+    fn of(alloc: Global, bytes: &[u8]) -> Result<Held, Memory>
+        requires { length bytes.now ≤ 64 }
+        ensures value { IfOk result (λ held. held_bytes held ≡ bytes.now) }
+        ensures short { length bytes.now ≤ 14 → IsOk result }
+    {
+        if bytes.len() <= MOST_SHORT_BYTES {
+            return Ok(Held::Short(Piece::of(bytes)));
+        }
+        let piece = Box::new(alloc, Piece::of(bytes))?;
+        Ok(Held::Long(piece))
+    }
+
+    fn as_slice(&self) -> &[u8]
+        ensures { result.now ≡ held_bytes self.now }
+    {
+        match self {
+            Held::Short(piece) => piece.as_slice(),
+            Held::Long(piece) => piece.as_slice(),
+        }
+    }
+
+    fn copy(&self, alloc: Global) -> Result<Held, Memory>
+        ensures { IfOk result (λ held. held_bytes held ≡ held_bytes self.now) }
+    {
+        match self {
+            Held::Short(piece) => Ok(Held::Short(piece.copy())),
+            Held::Long(piece) => {
+                let piece = Box::new(alloc, piece.copy())?;
+                Ok(Held::Long(piece))
+            }
+        }
+    }
+}
+
 impl Text {
     /// Whether `new` would take the bytes as a text.
     pub fn is_text(bytes: &[u8]) -> bool
@@ -66,9 +118,9 @@ impl Text {
         if !Text::is_text(bytes) {
             return Err(TextRefused::BadText);
         }
-        match Vec::from_slice(alloc, bytes) {
-            Ok(bytes) => Ok(Text { bytes }),
-            Err(_) => Err(TextRefused::Memory),
+        match Held::of(alloc, bytes) {
+            Ok(held) => Ok(Text { held }),
+            Err(Memory) => Err(TextRefused::Memory),
         }
     }
 
@@ -77,7 +129,7 @@ impl Text {
         ensures value { result.now ≡ self.now }
         ensures text { IsText self.now }
     {
-        self.bytes.as_slice()
+        self.held.as_slice()
     }
 }
 
@@ -92,13 +144,13 @@ impl PartialEq for Text {
     ghost laws = { partial_equiv_from_equiv nat_list_eq_equiv };
 
     fn eq(&self, other: &Text) -> bool {
-        self.bytes.as_slice() == other.bytes.as_slice()
+        self.as_bytes() == other.as_bytes()
     }
 }
 
 impl Duplicate for Text {
     fn copy(&self, alloc: Global) -> Result<Text, Memory> {
-        let bytes = Vec::from_slice(alloc, self.bytes.as_slice())?;
-        Ok(Text { bytes })
+        let held = self.held.copy(alloc)?;
+        Ok(Text { held })
     }
 }

@@ -22,6 +22,20 @@ pub enum Value {
     Text(Text),
 }
 
+const _: () = prove!(size_of::<Value>() == 24);
+
+/// What stands in the places of a row that are free.
+impl Default for Value {
+    ghost use Rattle.adg_base.specs.declared.value.Value.TheVariants.{Null};
+    ghost use Rattle.std.specs.Prelude.{◌≡◌};
+
+    ghost is_default = { λ v. v ≡ Null };
+
+    fn default() -> Value {
+        Value::Null
+    }
+}
+
 impl Duplicate for ColKind {
     fn copy(&self, _alloc: Global) -> Result<ColKind, Memory> {
         Ok(*self)

@@ -16,8 +16,10 @@ use adg_base::shard::{
 use adg_base::steps::Steps;
 use adg_base::text::{Text, TextRefused};
 use adg_base::value::{ColKind, Value};
+use adg_base::value_ref::ValueRef;
 use adg_base::vector::{RedoRecord, Vector, VectorList};
 use std::alloc::Global;
+use std::cmp::Ordering;
 use std::fmt::Debug;
 use std::marker::Brand;
 use std::process::Abort;
@@ -260,6 +262,93 @@ fn assert_texts(rt: &impl Abort, alloc: Global) -> Result<(), Fail> {
     Ok(())
 }
 
+// Texts of so many bytes lie in the value itself up to 14, and beyond that in memory of their own.
+const TEXT_LENGTHS: [usize; 8] = [0, 1, 13, 14, 15, 16, 63, 64];
+
+// A text of so many equal bytes.
+fn text_of(alloc: Global, byte: u8, len: usize) -> Result<Text, Fail> {
+    let bytes = vec![in alloc; byte; len]?;
+    Ok(Text::new(alloc, bytes.as_slice())?)
+}
+
+fn order(left: Text, right: Text) -> Ordering {
+    let (left, right) = (Value::Text(left), Value::Text(right));
+    ValueRef::of(&left).compare(ValueRef::of(&right))
+}
+
+// A text of this length beside one of each length: they are equal where the lengths are.
+fn assert_beside_others(rt: &impl Abort, alloc: Global, len: usize) -> Result<(), Fail> {
+    for other in TEXT_LENGTHS {
+        let (left, right) = (text_of(alloc, b'a', len)?, text_of(alloc, b'a', other)?);
+        assert!(rt; (left == right) == (len == other), "{len} {other}");
+        assert!(rt; order(left, right) == len.cmp(&other), "{len} {other}");
+        let (less, more) = (text_of(alloc, b'a', len)?, text_of(alloc, b'b', other)?);
+        let shown = if other == 0 {
+            len.cmp(&0)
+        } else {
+            Ordering::Less
+        };
+        assert!(rt; (less == more) == (len == 0 && other == 0), "{len} {other}");
+        assert!(rt; order(less, more) == shown, "{len} {other}");
+    }
+    Ok(())
+}
+
+fn assert_text_lengths(rt: &impl Abort, alloc: Global) -> Result<(), Fail> {
+    for len in TEXT_LENGTHS {
+        let text = text_of(alloc, b'~', len)?;
+        assert_text(rt, alloc, text.as_bytes(), true);
+        let copied = text.copy(alloc)?;
+        assert!(rt; copied == text && copied.as_bytes().len() == len, "{len}");
+        assert_copied(rt, alloc, Value::Text(copied))?;
+        assert_beside_others(rt, alloc, len)?;
+    }
+    Ok(())
+}
+
+// So many values of all kinds, in a `Vec` with room for so many.
+fn values(alloc: Global, count: usize, room: usize) -> Result<Vec<Value>, Fail> {
+    let mut values = Vec::with_capacity(alloc, room)?;
+    for index in 0..count {
+        values.push(match index % 4 {
+            0 => Value::Text(text_of(alloc, b'a', 14)?),
+            1 => Value::Int(-5),
+            2 => Value::Text(text_of(alloc, b'b', 15)?),
+            _ => Value::Null,
+        })?;
+    }
+    Ok(values)
+}
+
+// Up to four values lie beside the count, however much room their `Vec` has; more stay in it.
+fn assert_rows(rt: &impl Abort, alloc: Global) -> Result<(), Fail> {
+    for (count, room) in [
+        (0, 0),
+        (0, 8),
+        (1, 1),
+        (1, 5),
+        (3, 3),
+        (4, 4),
+        (4, 16),
+        (5, 5),
+        (16, 16),
+    ] {
+        let expected = values(alloc, count, count)?;
+        let row = Row::from_vec(alloc, values(alloc, count, room)?)?;
+        let copied = row.copy(alloc)?;
+        assert!(rt;
+            row.len() == count && copied.len() == count,
+            "{count} {room}"
+        );
+        assert!(rt; row.as_slice() == expected.as_slice(), "{count} {room}");
+        drop(row);
+        assert!(rt; copied.as_slice() == expected.as_slice(), "{count} {room}");
+        assert_copied(rt, alloc, copied)?;
+    }
+    assert!(rt; Value::default() == Value::Null);
+    Ok(())
+}
+
 fn assert_ends(rt: &impl Abort) -> Result<(), Fail> {
     assert!(rt; scn()?.get() == 281_474_976_710_655 && Scn::new(1 << 48).is_none());
     assert!(rt; Scn::new(0) == Some(Scn::ZERO) && Scn::ZERO.get() == 0);
@@ -312,6 +401,16 @@ fn copies_are_whole(rt: HostRuntime) -> Result<(), Fail> {
 fn texts_and_lists(rt: HostRuntime) -> Result<(), Fail> {
     assert_texts(&rt, rt.alloc())?;
     assert_bytes(&rt, rt.alloc())
+}
+
+#[test]
+fn short_and_long_texts(rt: HostRuntime) -> Result<(), Fail> {
+    assert_text_lengths(&rt, rt.alloc())
+}
+
+#[test]
+fn rows_of_few_and_many(rt: HostRuntime) -> Result<(), Fail> {
+    assert_rows(&rt, rt.alloc())
 }
 
 #[test]
