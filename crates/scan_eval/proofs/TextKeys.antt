@@ -34,3 +34,7 @@ after_change bs m n w h cs =
     (λ e. other_entries (has_bytes bs) m.entries n.entries h.3 (has_bytes cs) (λ x y. nat_list_eq_equiv.congr cs x.items y.items) (λ k. apart bs cs k.items e)
     ∙ sym (cond-false (is_eq (slice_cmp nat_cmp cs bs)) w (get_by (has_bytes cs) m) (flipped ∙ e)))
     (cases_Bool (pointwise nat_eq bs cs))
+
+-- texts are equal where neither comes first
+pub equal_bytes : (bs cs : List ℕ) → pointwise nat_eq bs cs ≡ is_eq (slice_cmp nat_cmp bs cs)
+equal_bytes bs cs = sym (is_eq-slice_cmp bs cs)

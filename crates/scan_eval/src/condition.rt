@@ -2,6 +2,8 @@
 
 ghost use Rattle.std.specs.Prelude.{◌≡◌, ◌&&◌, not, ◌-◌};
 ghost use Rattle.std.specs.List.{list_all};
+ghost use Rattle.std.specs.Cmp.Lexicographic.{slice_cmp};
+ghost use Rattle.std.specs.Ordering.{nat_cmp};
 ghost use Rattle.adg_model.specs.Query as query;
 ghost use Rattle.adg_model.specs.Query.{allows, value_in};
 ghost use Rattle.adg_base.specs.Values.{is_null, value_cmp, shown};
@@ -9,6 +11,7 @@ ghost use Rattle.adg_base.specs.Values.{is_null, value_cmp, shown};
 use adg_base::command::{Condition, Op};
 use adg_base::value_ref::{RowView, ValueRef};
 use adg_model::comparison::is_allowed;
+use std::cmp::Ordering;
 
 /// Whether a row meets all conditions.
 pub fn meets_all<R: RowView>(row: &R, conditions: &[Condition]) -> bool
@@ -37,8 +40,23 @@ fn passes(value: ValueRef<'_>, op: Op, literal: ValueRef<'_>) -> bool
 {
     match (value, literal) {
         (ValueRef::Null, _) | (_, ValueRef::Null) => false,
-        (ValueRef::Int(_) | ValueRef::Text(_), ValueRef::Int(_) | ValueRef::Text(_)) => {
-            is_allowed(op, value.compare(literal))
+        (ValueRef::Int(number), ValueRef::Int(literal)) => is_allowed(op, number.cmp(&literal)),
+        (ValueRef::Int(_), ValueRef::Text(_)) => is_allowed(op, Ordering::Less),
+        (ValueRef::Text(_), ValueRef::Int(_)) => is_allowed(op, Ordering::Greater),
+        (ValueRef::Text(text), ValueRef::Text(literal)) => {
+            text_passes(text.as_bytes(), op, literal.as_bytes())
         }
+    }
+}
+
+/// Whether a comparison of texts holds. Whether two are equal needs no order of them.
+#[tactic(auto, using(crate::proofs::TextKeys::equal_bytes))]
+fn text_passes(text: &[u8], op: Op, literal: &[u8]) -> bool
+    ensures { result ≡ allows op (slice_cmp nat_cmp text.now literal.now) }
+{
+    match op {
+        Op::Eq => text == literal,
+        Op::Ne => text != literal,
+        Op::Lt | Op::Le | Op::Gt | Op::Ge => is_allowed(op, text.cmp(literal)),
     }
 }
