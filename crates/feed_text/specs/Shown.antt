@@ -3,7 +3,7 @@ use Rattle.std.specs.Prelude.{◌≡◌, ℕ, ◌<◌, List, [], ◌∷◌, ◌+
 use Rattle.std.specs.List.{flat_map, AllByRecursion}
 use Rattle.feed_text.specs.Meaning.{AddAll}
 
--- no newline is in a line, nor another byte below a blank that could be taken for one
+-- no newline is in a line, and no byte below one
 abbrev pub IsLine : List ℕ → Type 0
 IsLine text = AllByRecursion (λ c. 10 < c) text
 
