@@ -96,7 +96,8 @@ fn strike_one(version: &mut Version, txn: Txn)
 
 /// The versions at each of the 64 slots of a block. The slots that have some lie together, in the order
 /// in which they got their first, so that a block takes memory for those alone. For each slot a place
-/// among them is kept; it tells nothing where another slot lies there.
+/// among them is kept. It tells nothing where another slot lies there or none does: a slot without
+/// versions has the place 64, so that nothing is looked at for it.
 #[derive(Drop)]
 pub struct Block {
     alloc: Global,
@@ -124,7 +125,7 @@ impl Block {
     {
         Block {
             alloc,
-            places: [0; 64],
+            places: [SLOTS; 64],
             used: Vec::new(alloc),
         }
     }

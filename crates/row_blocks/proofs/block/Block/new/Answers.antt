@@ -3,4 +3,4 @@ use Rattle.row_blocks.proofs.Held.{empty_block}
 use Rattle.row_blocks.proofs.block.Block.new.Goals as goal
 
 pub returns : goal.returns
-returns c slot = empty_block c.new.result.items (replicate 64 0) slot c.new.ensures.items
+returns c slot = empty_block c.new.result.items (replicate 64 64) slot c.new.ensures.items
