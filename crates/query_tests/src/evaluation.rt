@@ -67,14 +67,14 @@ fn rows_of(alloc: Global, rows: Rows) -> Result<RowList, Memory> {
 /// the same.
 fn many_rows(alloc: Global) -> Result<RowList, Memory> {
     let mut rows = List::new(alloc);
-    for index in 0..300 {
-        let number: i64 = 100 + index * 37 % 150;
+    for index in 0..300_u32 {
+        let number = 100 + index * 37 % 150;
         let name = format!(in alloc; "{number}")?;
         let name = match Text::new(alloc, name.as_bytes()) {
             Ok(name) => Value::Text(name),
             Err(_) => return Err(Memory),
         };
-        let values = vec![in alloc; Value::Int(number), name]?;
+        let values = vec![in alloc; Value::Int(i64::from(number)), name]?;
         rows.push(Row::from_vec(alloc, values)?)?;
     }
     Ok(rows)
