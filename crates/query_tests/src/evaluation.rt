@@ -59,7 +59,34 @@ fn rows_of(alloc: Global, rows: Rows) -> Result<RowList, Memory> {
         Rows::Least => list_of(alloc, tables::LEAST.as_slice()),
         Rows::Nulls => list_of(alloc, tables::NULLS.as_slice()),
         Rows::Narrow => list_of(alloc, tables::NARROW.as_slice()),
+        Rows::Shared => list_of(alloc, tables::SHARED.as_slice()),
     }
+}
+
+/// Rows of 150 keys, each in two rows, not in their order. The number and the name of a row are
+/// the same.
+fn many_rows(alloc: Global) -> Result<RowList, Memory> {
+    let mut rows = List::new(alloc);
+    for index in 0..300_u32 {
+        let number = 100 + index * 37 % 150;
+        let name = format!(in alloc; "{number}")?;
+        let name = match Text::new(alloc, name.as_bytes()) {
+            Ok(name) => Value::Text(name),
+            Err(_) => return Err(Memory),
+        };
+        let values = vec![in alloc; Value::Int(i64::from(number)), name]?;
+        rows.push(Row::from_vec(alloc, values)?)?;
+    }
+    Ok(rows)
+}
+
+/// The groups of these rows, by either column.
+fn many_lines(alloc: Global) -> Result<String, Memory> {
+    let mut lines = String::new(alloc);
+    for number in 100..250 {
+        lines.push_str(format!(in alloc; "{number}|2|;")?.as_str())?;
+    }
+    Ok(lines)
 }
 
 fn aggregates_of(alloc: Global, sums: Sums) -> Result<What, Memory> {
@@ -204,12 +231,12 @@ fn vectors_of(alloc: Global, rows: &[Row], obj: Obj, txn: Txn) -> Result<Vec<Vec
         columns,
     };
     let mut vectors = vec![in alloc; create, Vector::Begin { txn }]?;
-    for (slot, row) in rows.iter().enumerate() {
+    for (index, row) in rows.iter().enumerate() {
         vectors.push(Vector::Put {
             txn,
             obj,
-            block: 0,
-            slot: u8::try_from(slot).unwrap_or(63),
+            block: u16::try_from(index / 64).unwrap_or(0),
+            slot: u8::try_from(index % 64).unwrap_or(0),
             row: row.copy(alloc)?,
         })?;
     }
@@ -243,14 +270,26 @@ fn plainly(alloc: Global, rows: &[Row], query: Select) -> Result<String, Fail> {
     }
 }
 
-/// That `select`, two accumulators that share the rows, and the plain program give this answer.
+/// That a case has its answer.
 fn assert_answer(rt: &impl Abort, alloc: Global, case: &Case) -> Result<(), Fail> {
     let (name, rows, ask, want) = *case;
+    let rows = rows_of(alloc, rows)?;
+    assert_answered(rt, alloc, name, &rows, ask, want)
+}
+
+/// That `select`, two accumulators that share the rows, and the plain program give this answer.
+fn assert_answered(
+    rt: &impl Abort,
+    alloc: Global,
+    name: &str,
+    rows: &RowList,
+    ask: Ask,
+    want: &str,
+) -> Result<(), Fail> {
     let obj = Obj::new(1).ok_or("obj")?;
     let def = definition(obj);
     let query = query_of(alloc, ask, obj)?;
-    let rows = rows_of(alloc, rows)?;
-    let selected = told(alloc, select(alloc, &rows, &query, &def))?;
+    let selected = told(alloc, select(alloc, rows, &query, &def))?;
     assert_eq!(rt; selected.as_str(), want, "{name}");
     for at in 0..=rows.len() {
         let both = told(alloc, joined(alloc, rows.as_slice(), at, &query, &def))?;
@@ -281,6 +320,18 @@ fn sums_up(rt: HostRuntime) -> Result<(), Fail> {
 fn groups(rt: HostRuntime) -> Result<(), Fail> {
     for case in &tables::GROUPS {
         assert_answer(&rt, rt.alloc(), case)?;
+    }
+    Ok(())
+}
+
+#[test]
+fn groups_many(rt: HostRuntime) -> Result<(), Fail> {
+    let alloc = rt.alloc();
+    let rows = many_rows(alloc)?;
+    let want = many_lines(alloc)?;
+    for column in [1, 2] {
+        let ask = Ask::By(column, Sums::Counted);
+        assert_answered(&rt, alloc, "many keys", &rows, ask, want.as_str())?;
     }
     Ok(())
 }

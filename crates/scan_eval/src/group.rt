@@ -59,7 +59,6 @@ impl Groups {
     }
 
     /// The groups with one row more.
-    #[inline(never)]
     pub fn add<R: RowView>(
         &mut self,
         alloc: Global,
@@ -141,6 +140,7 @@ impl Groups {
     }
 
     /// The place of a key, which is given one where it has none.
+    #[inline]
     fn place_of(
         &mut self,
         alloc: Global,

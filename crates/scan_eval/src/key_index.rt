@@ -5,17 +5,18 @@ ghost use Rattle.adg_base.specs.declared.value.Value.{Value as Datum};
 ghost use Rattle.adg_base.specs.Values.{shown, same};
 ghost use Rattle.scan_eval.specs.KeyIndex.{place_at};
 
+use crate::number_index::NumberIndex;
+use crate::text_index::TextIndex;
 use adg_base::memory::Memory;
 use adg_base::value_ref::ValueRef;
 use std::alloc::Global;
-use std::collections::HashMap;
 
 /// The places of keys in a list. A key is looked up where it lies, and kept once where it is new.
 #[derive(Drop)]
 pub struct KeyIndex {
     null: Option<usize>,
-    numbers: HashMap<i64, usize>,
-    texts: HashMap<Vec<u8>, usize>,
+    numbers: NumberIndex,
+    texts: TextIndex,
 }
 
 impl KeyIndex {
@@ -25,19 +26,20 @@ impl KeyIndex {
     {
         KeyIndex {
             null: None,
-            numbers: HashMap::new(alloc),
-            texts: HashMap::new(alloc),
+            numbers: NumberIndex::new(alloc),
+            texts: TextIndex::new(alloc),
         }
     }
 
     /// The place of a key.
+    #[inline]
     pub fn find(&self, key: ValueRef<'_>) -> Option<usize>
         ensures { result ≡ place_at self.now (shown key.entry) }
     {
         match key {
             ValueRef::Null => self.null,
-            ValueRef::Int(number) => self.numbers.get(&number).copied(),
-            ValueRef::Text(text) => self.texts.get(text.as_bytes()).copied(),
+            ValueRef::Int(number) => self.numbers.find(number),
+            ValueRef::Text(text) => self.texts.find(text),
         }
     }
 
@@ -47,13 +49,8 @@ impl KeyIndex {
     {
         match key {
             ValueRef::Null => self.null = Some(place),
-            ValueRef::Int(number) => {
-                self.numbers.insert(number, place)?;
-            }
-            ValueRef::Text(text) => {
-                let bytes = Vec::from_slice(alloc, text.as_bytes())?;
-                self.texts.insert(bytes, place)?;
-            }
+            ValueRef::Int(number) => self.numbers.insert(alloc, number, place)?,
+            ValueRef::Text(text) => self.texts.insert(alloc, text, place)?,
         }
         Ok(())
     }

@@ -2,7 +2,7 @@
 //! semicolon.
 
 use Ask::{All, Both, By, Of, Where, WhereBy};
-use Rows::{Empty, Five, Greatest, Least, Mixed, Narrow, Nulls};
+use Rows::{Empty, Five, Greatest, Least, Mixed, Narrow, Nulls, Shared};
 use Short::{Absent, Int, Null, Text};
 use Sums::{Counted, Fourth, Names, NamesSummed, Numbers, Third};
 use adg_base::command::Op;
@@ -56,6 +56,7 @@ pub enum Rows {
     Least,
     Nulls,
     Narrow,
+    Shared,
 }
 
 /// What a case shows, the rows, the query and its answer.
@@ -89,6 +90,28 @@ pub static LEAST: [(Short, Short); 2] = [(Int(i64::MIN), Null), (Int(i64::MIN), 
 pub static NULLS: [(Short, Short); 2] = [(Null, Null), (Null, Null)];
 
 pub static NARROW: [(Short, Short); 2] = [(Int(4), Absent), (Int(3), Absent)];
+
+/// Numbers that share a slot with others, and names that do, short and long and of equal length.
+pub static SHARED: [(Short, Short); 18] = [
+    (Int(5), Text("b")),
+    (Int(133), Text("bb")),
+    (Int(-5), Text("as")),
+    (Null, Null),
+    (Int(133), Text("abc")),
+    (Int(5), Text("bar")),
+    (Int(-133), Text("")),
+    (Int(0), Text("@")),
+    (Int(128), Text("cad")),
+    (Int(i64::MIN), Text("dac")),
+    (Int(-5), Text("b")),
+    (Int(128), Text("bar")),
+    (Null, Text("@")),
+    (Int(0), Text("alongernamethatiskeptapart")),
+    (Int(5), Text("alongerwordthatiskeptapart")),
+    (Int(1), Null),
+    (Int(i64::MIN), Text("alongerwordthatiskeptapart")),
+    (Int(133), Text("alongernamethatiskeptapart")),
+];
 
 pub static CONDITIONS: [Case; 27] = [
     (
@@ -237,7 +260,7 @@ pub static AGGREGATES: [Case; 14] = [
     ),
 ];
 
-pub static GROUPS: [Case; 9] = [
+pub static GROUPS: [Case; 11] = [
     (
         "by names that no row has",
         Narrow,
@@ -267,6 +290,18 @@ pub static GROUPS: [Case; 9] = [
         Mixed,
         By(1, Names),
         "NULL|2|a|a|;-3|1|ab|ab|;1|2|ab|abc|;5|2||b|;7|1|NULL|NULL|;",
+    ),
+    (
+        "by numbers that share a slot",
+        Shared,
+        By(1, Names),
+        "NULL|2|@|@|;-9223372036854775808|2|alongerwordthatiskeptapart|dac|;-133|1|||;-5|2|as|b|;0|2|@|alongernamethatiskeptapart|;1|1|NULL|NULL|;5|3|alongerwordthatiskeptapart|bar|;128|2|bar|cad|;133|3|abc|bb|;",
+    ),
+    (
+        "by names that share a slot",
+        Shared,
+        By(2, Numbers),
+        "NULL|2|1|1|1|;|1|-133|-133|-133|;@|2|0|0|0|;abc|1|133|133|133|;alongernamethatiskeptapart|2|133|0|133|;alongerwordthatiskeptapart|2|-9223372036854775803|-9223372036854775808|5|;as|1|-5|-5|-5|;b|2|0|-5|5|;bar|2|133|5|128|;bb|1|133|133|133|;cad|1|128|128|128|;dac|1|-9223372036854775808|-9223372036854775808|-9223372036854775808|;",
     ),
     ("by Nulls", Nulls, By(2, Counted), "NULL|2|;"),
     ("of no rows", Empty, By(1, Counted), ""),
