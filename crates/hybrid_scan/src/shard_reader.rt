@@ -110,7 +110,7 @@ fn rows_in<L: Ledger>(
     ensures rows { IfOk result (λ rows. rows ≡ placed (picked_in (commits_in (shards_in shards.now) q) found.now) (block_places obj block)) }
     ensures cost { IfOk result (λ rows. steps.new ≡ steps.old + length rows) }
 {
-    let mut rows = Vec::new(alloc);
+    let mut rows = Vec::with_capacity(alloc, usize::from(SLOTS))?;
     for slot in 0..SLOTS {
         let addr = Addr::new(obj, block, slot).unwrap();
         let row = pick_in(found.versions(slot), shards, q, steps);
