@@ -30,11 +30,6 @@ open_number : (entry : Option NumberPlace) (n number : ℤ) → is_number_open e
 open_number None n number vacant apart = refl
 open_number (Some e) n number vacant apart = cond-false (int_eq e.number n) (Some e.place) None (int_eq_equiv.congr e.number number n vacant ∙ int_eq_equiv.symm number n ∙ apart)
 
--- a slot that is not open for a number has no place of it
-pub taken_number : (entry : Option NumberPlace) (number : ℤ) → is_number_open entry number ≡ false → near_number entry number ≡ None
-taken_number None number taken = refl
-taken_number (Some e) number taken = cond-false (int_eq e.number number) (Some e.place) None taken
-
 -- the text in a slot that is open for another
 open_text : (entry : Option TextPlace) (t text : List ℕ) → is_text_open entry text ≡ true → pointwise nat_eq t text ≡ false → near_text entry t ≡ None
 open_text None t text vacant apart = refl
