@@ -326,6 +326,52 @@ fn assert_distant_ends<L: Ledger>(
     assert_distant(rt, alloc, &entries, steps)
 }
 
+/// Puts at all slots of block t1.0 in a mixed order, twice each, by one transaction that commits.
+fn full_block(alloc: Global) -> Result<Vec<LogEntry>, Fail> {
+    let txn = Txn::new(7).ok_or("txn")?;
+    let obj = Obj::new(1).ok_or("obj")?;
+    let mut entries = Vec::new(alloc);
+    for pos in 0..128u64 {
+        let slot = (pos.wrapping_mul(37) % 64) as u8;
+        let row = row(alloc, pos as i64)?;
+        let put = Vector::Put {
+            txn,
+            obj,
+            block: 0,
+            slot,
+            row,
+        };
+        entries.push(entry(pos, 11, put)?)?;
+    }
+    entries.push(entry(128, 12, Vector::Commit { txn, flag: false })?)?;
+    Ok(entries)
+}
+
+/// The rows of a full block are the second of each slot, in the order of the slots.
+fn assert_full_block<L: Ledger>(
+    rt: &impl Abort,
+    alloc: Global,
+    steps: &mut Steps<L>,
+) -> Result<(), Fail> {
+    let entries = full_block(alloc)?;
+    let shards = applied(alloc, &entries)?;
+    let obj = Obj::new(1).ok_or("obj")?;
+    let q = Scn::new(12).ok_or("scn")?;
+    let mut rows = Vec::new(alloc);
+    read_block(&shards, obj, 0, q, &mut rows, steps)?;
+    assert!(rt; rows.len() == 64);
+    for slot in 0..64u8 {
+        let addr = Addr::new(obj, 0, slot).ok_or("addr")?;
+        // 45 times 37 is one more than a multiple of 64
+        let pos = u64::from(slot).wrapping_mul(45) % 64 + 64;
+        assert!(rt;
+            number_in(row_at(&shards, addr, q, steps))? == Some(pos as i64),
+            "at {slot}"
+        );
+    }
+    Ok(())
+}
+
 /// The row of a version and whether it is struck, and its transaction's end: the position, the SCN
 /// and whether it is a commit.
 #[derive(Clone, Copy)]
@@ -518,6 +564,7 @@ fn assert_rows<L: Ledger>(rt: &impl Abort, alloc: Global, blank: Blank) -> Resul
     assert_deep_redo(rt, alloc, &mut steps)?;
     assert_apart(rt, alloc, &mut steps)?;
     assert_distant_ends(rt, alloc, &mut steps)?;
+    assert_full_block(rt, alloc, &mut steps)?;
     assert_picks(rt, alloc, &mut steps)?;
     assert!(rt; !pick_none(&mut steps));
     Ok(())
