@@ -9,3 +9,4 @@ pub mod Together
 pub mod ShardLists
 pub mod Lending
 pub mod Held
+pub mod Settling

@@ -68,7 +68,7 @@ candidate_below c pos v h = by_cases (c v.txn) v.struck refl refl
     by_cases (Some p) true e k = rw k tt
     by_cases (Some p) false e k = rw k (h v.txn p e)
 
-later_below : (pos : ℕ) (x y : Option Candidate) → CommitBelow pos x → CommitBelow pos y → CommitBelow pos (later x y)
+pub later_below : (pos : ℕ) (x y : Option Candidate) → CommitBelow pos x → CommitBelow pos y → CommitBelow pos (later x y)
 later_below pos None y h k = k
 later_below pos (Some x) None h k = h
 later_below pos (Some x) (Some y) h k = by_test (is_upto x y)

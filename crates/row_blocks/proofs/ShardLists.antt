@@ -11,23 +11,23 @@ use Rattle.row_blocks.specs.Shard.{shown}
 use Rattle.row_blocks.specs.Shards.{kept_or, shards_in, AreNumbered, KeepSame, PassesEntry}
 use Rattle.row_blocks.proofs.Together.{all_pass}
 
-get_set_same : (xs : List Shard) (i : ℕ) (x : Shard) → i < length xs → slice_get (slice_set xs i x) i ≡ Some x
+pub get_set_same : (xs : List Shard) (i : ℕ) (x : Shard) → i < length xs → slice_get (slice_set xs i x) i ≡ Some x
 get_set_same [] i x h = absurd (omega arith)
 get_set_same (y ∷ xs) zero x h = refl
 get_set_same (y ∷ xs) (suc i) x h = get_set_same xs i x (omega arith)
 
-get_set_other : (xs : List Shard) (i n : ℕ) (x : Shard) → (n ≡ i → ⊥) → slice_get (slice_set xs i x) n ≡ slice_get xs n
+pub get_set_other : (xs : List Shard) (i n : ℕ) (x : Shard) → (n ≡ i → ⊥) → slice_get (slice_set xs i x) n ≡ slice_get xs n
 get_set_other [] i n x h = refl
 get_set_other (y ∷ xs) zero zero x h = absurd (h refl)
 get_set_other (y ∷ xs) zero (suc n) x h = refl
 get_set_other (y ∷ xs) (suc i) zero x h = refl
 get_set_other (y ∷ xs) (suc i) (suc n) x h = get_set_other xs i n x (λ e. h (ap suc e))
 
-get_push_end : (xs : List Shard) (x : Shard) → slice_get (xs ++ x ∷ []) (length xs) ≡ Some x
+pub get_push_end : (xs : List Shard) (x : Shard) → slice_get (xs ++ x ∷ []) (length xs) ≡ Some x
 get_push_end [] x = refl
 get_push_end (y ∷ xs) x = get_push_end xs x
 
-get_push_before : (xs : List Shard) (n : ℕ) (x : Shard) → n < length xs → slice_get (xs ++ x ∷ []) n ≡ slice_get xs n
+pub get_push_before : (xs : List Shard) (n : ℕ) (x : Shard) → n < length xs → slice_get (xs ++ x ∷ []) n ≡ slice_get xs n
 get_push_before [] n x h = absurd (omega arith)
 get_push_before (y ∷ xs) zero x h = refl
 get_push_before (y ∷ xs) (suc n) x h = get_push_before xs n x (omega arith)

@@ -54,7 +54,7 @@ deed_own n a e h k = by_vector e.vector k
     by_vector EndThread m = absurd (true≢false (sym m))
 
 -- an end of a transaction of a shard is in one of its own entries
-end_own : (n t : ℕ) (e : LogEntry) → shard_of_txn t ≡ n → is_some (end_by t e.pos e.scn e.vector) ≡ true → is_own n e ≡ true
+pub end_own : (n t : ℕ) (e : LogEntry) → shard_of_txn t ≡ n → is_some (end_by t e.pos e.scn e.vector) ≡ true → is_own n e ≡ true
 end_own n t e h k = by_vector e.vector k
   where
     by_txn : (u : ℕ) (x : End) → is_some (cond (u == t) (Some x) None) ≡ true → same_shard n (Some (shard_of_txn u)) ≡ true

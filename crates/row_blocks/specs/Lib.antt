@@ -9,3 +9,4 @@ pub mod Shard
 pub mod Shards
 pub mod Lent
 pub mod Held
+pub mod Settled

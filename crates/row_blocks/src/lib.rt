@@ -6,6 +6,7 @@ pub mod block;
 mod ends;
 pub mod law;
 pub mod pick;
+pub mod settled;
 mod several;
 pub mod shard;
 pub mod shards;

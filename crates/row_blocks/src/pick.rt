@@ -1,9 +1,9 @@
 ghost use Rattle.std.specs.Prelude.{◌≡◌, ◌+◌, if◌then◌else◌, length, is_some, option_copied};
 ghost use Rattle.row_blocks.specs.Pick.{counted, candidate, later, picked, row_of};
-ghost use Rattle.row_blocks.specs.Best.{shown};
+ghost use Rattle.row_blocks.specs.Best.{shown, commits_behind};
 
 use crate::version::{End, Version};
-use adg_base::number::Scn;
+use adg_base::number::{Pos, Scn};
 use adg_base::row::Row;
 use adg_base::steps::Steps;
 use std::sync::ledger::Ledger;
@@ -84,6 +84,16 @@ pub fn pick<'a, L: Ledger>(
         best = with_version(best, version, *end, q);
     }
     told(best, steps)
+}
+
+/// Whether the transaction of the best, where there is one, committed behind a position.
+pub(crate) fn is_behind(best: Option<Best<'_>>, pos: Pos) -> bool
+    ensures { result ≡ commits_behind pos (shown best.entry) }
+{
+    match best {
+        Some(best) => pos.get() < best.commit,
+        None => false,
+    }
 }
 
 /// The row of the best, where it has one, at the cost of a step.

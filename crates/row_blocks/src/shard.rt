@@ -1,13 +1,15 @@
 ghost use Rattle.std.specs.Prelude.{◌≡◌, ℕ, ◌+◌, ◌<◌, ◌^◌, Ok, Some, false, nat_lt, if◌then◌else◌, IfOk, OnOk, OnErr, option_copied};
 ghost use Rattle.adg_base.specs.Shard.{shard_of_vector};
-ghost use Rattle.adg_base.specs.Address.{place};
+ghost use Rattle.adg_base.specs.Address.{Place, place};
 ghost use Rattle.row_blocks.specs.Versions.{Makes, Strikes};
 ghost use Rattle.row_blocks.specs.Stands.{SameKept, StandsFromStart, StandsForMore, with_entry, after_entry, none_kept};
 ghost use Rattle.row_blocks.specs.Pick.{counted};
 ghost use Rattle.row_blocks.specs.Shard.{shown, DoesAt, EndsAt, at_slot};
+ghost use Rattle.row_blocks.specs.Settled.{unsettled, settled_at, SetsSettled};
 
 use crate::block::{Block, SLOTS};
 use crate::ends::Ends;
+use crate::settled::Settled;
 use crate::version::{End, Version};
 use adg_base::address::Addr;
 use adg_base::list::Duplicate;
@@ -27,8 +29,12 @@ pub enum Applied {
     Already,
 }
 
+/// How many more versions an address gets before it is looked at again how many of them are settled.
+pub(crate) const STRIDE: usize = 16;
+
 /// One of the 64 shards: the versions of its blocks' rows and the ends of its transactions, as far
-/// as it has come in the log.
+/// as it has come in the log. Of an address with many versions it keeps how many are settled, and of
+/// one address that it is time to look at that.
 #[derive(Drop)]
 pub struct Shard {
     alloc: Global,
@@ -36,6 +42,8 @@ pub struct Shard {
     applied: Pos,
     blocks: HashMap<(u16, u16), Block>,
     ends: Ends,
+    settled: HashMap<Addr, Settled>,
+    due: Option<Addr>,
 }
 
 impl Shard {
@@ -43,6 +51,7 @@ impl Shard {
     pub fn new(alloc: Global, number: u8) -> Shard
         ensures empty { SameKept (shown result) (none_kept number) }
         ensures stands { StandsFromStart (shown result) }
+        ensures settled { (a : Place) → settled_at result a ≡ unsettled }
     {
         Shard {
             alloc,
@@ -50,6 +59,8 @@ impl Shard {
             applied: Pos::new(0),
             blocks: HashMap::new(alloc),
             ends: Ends::new(alloc),
+            settled: HashMap::new(alloc),
+            due: None,
         }
     }
 
@@ -98,6 +109,31 @@ impl Shard {
         self.ends.commit_upto(txn, q)
     }
 
+    /// How many versions at an address are settled, as far as that is known.
+    pub fn settled(&self, addr: Addr) -> Settled
+        ensures { result ≡ settled_at self.now addr }
+    {
+        match self.settled.get(&addr) {
+            Some(known) => *known,
+            None => Settled::none(),
+        }
+    }
+
+    /// The address of which it is time to look how many versions are settled.
+    pub(crate) fn due(&self) -> Option<Addr> {
+        self.due
+    }
+
+    /// Keeps how many versions at an address are settled, and that no address is due. Without memory
+    /// for it what was known stays.
+    pub(crate) fn settle(&mut self, addr: Addr, settled: Settled)
+        ensures same { SameKept (shown self.new) (shown self.old) }
+        ensures settled { SetsSettled self.old self.new addr settled }
+    {
+        self.due = None;
+        let _ = self.settled.insert(addr, settled);
+    }
+
     /// Applies an entry of this shard, at a position below the last of its type: there the
     /// position applied stands still.
     pub fn apply(&mut self, entry: &LogEntry) -> Result<Applied, Memory>
@@ -107,6 +143,7 @@ impl Shard {
         ensures done { result ≡ Ok Applied.Done → entry.now.pos + 1 < 2 ^ 64 → SameKept (shown self.new) (after_entry (shown self.old) entry.now) }
         ensures stands { result ≡ Ok Applied.Done → entry.now.pos + 1 < 2 ^ 64 → StandsForMore (shown self.old) entry.now (shown self.new) }
         ensures number { self.new.number ≡ self.old.number }
+        ensures settled { self.new.settled ≡ self.old.settled }
         ensures err { OnErr result (SameKept (shown self.new) (shown self.old)) }
     {
         if entry.pos < self.applied {
@@ -120,6 +157,7 @@ impl Shard {
     /// What an entry makes of the versions and the ends.
     fn play(&mut self, entry: &LogEntry) -> Result<(), Memory>
         ensures ok { OnOk result (SameKept (shown self.new) (with_entry (shown self.old) entry.now)) }
+        ensures settled { self.new.settled ≡ self.old.settled }
         ensures err { OnErr result (SameKept (shown self.new) (shown self.old)) }
     {
         match &entry.vector {
@@ -175,6 +213,7 @@ impl Shard {
     /// Keeps the end of a transaction, unless there is one.
     fn end(&mut self, txn: Txn, pos: Pos, scn: Scn, committed: bool) -> Result<(), Memory>
         ensures ok { OnOk result (EndsAt (shown self.old) (shown self.new) txn (record { pos = pos; scn = scn; committed = committed })) }
+        ensures settled { self.new.settled ≡ self.old.settled }
         ensures err { OnErr result (SameKept (shown self.new) (shown self.old)) }
     {
         self.ends.enter(
@@ -191,6 +230,7 @@ impl Shard {
     fn make(&mut self, obj: Obj, block: u16, slot: u8, version: Version) -> Result<(), Memory>
         requires { version.struck ≡ false }
         ensures ok { OnOk result (DoesAt (shown self.old) (shown self.new) (place obj block slot) version.pos (Makes version.txn version.row)) }
+        ensures settled { self.new.settled ≡ self.old.settled }
         ensures err { OnErr result (SameKept (shown self.new) (shown self.old)) }
     {
         if slot >= SLOTS {
@@ -198,7 +238,9 @@ impl Shard {
         }
         let key = (obj.get(), block);
         if let Some(known) = self.blocks.get_mut(&key) {
-            return known.push(slot, version);
+            known.push(slot, version)?;
+            self.due = due_at(obj, block, slot, known.versions(slot).len());
+            return Ok(());
         }
         let mut fresh = Block::new(self.alloc);
         fresh.push(slot, version)?;
@@ -208,12 +250,22 @@ impl Shard {
 
     /// Strikes the latest version of a transaction at a slot of a block.
     fn strike(&mut self, obj: Obj, block: u16, slot: u8, txn: Txn)
-        ensures { (pos : ℕ) → DoesAt (shown self.old) (shown self.new) (place obj block slot) pos (Strikes txn) }
+        ensures strikes { (pos : ℕ) → DoesAt (shown self.old) (shown self.new) (place obj block slot) pos (Strikes txn) }
+        ensures settled { self.new.settled ≡ self.old.settled }
     {
         if slot < SLOTS {
             if let Some(known) = self.blocks.get_mut(&(obj.get(), block)) {
                 known.strike(slot, txn);
             }
         }
+    }
+}
+
+/// The address of a slot, where it is time to look how many of its versions are settled.
+fn due_at(obj: Obj, block: u16, slot: u8, count: usize) -> Option<Addr> {
+    if count % STRIDE == 0 {
+        Addr::new(obj, block, slot)
+    } else {
+        None
     }
 }

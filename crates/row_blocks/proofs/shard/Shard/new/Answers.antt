@@ -11,5 +11,5 @@ returns-clause-stands c =
       number = refl;
       applied = c.new.ensures;
       versions = λ a h. let e : hash.get same_block c.new-2.result (a.obj, a.block) ≡ None = grind (arith, common_steps) in ap (λ x. at_slot x a.slot) e;
-      ends = λ t. grind (arith, common_steps);
+      ends = c.new-3.ensures;
     })

@@ -5,8 +5,8 @@ use Rattle.row_blocks.specs.Shard.{shown, same_block}
 use Rattle.row_blocks.proofs.Slots.{SetsBlock, known_slot, does_at}
 use Rattle.row_blocks.proofs.shard.Shard.strike.Goals as goal
 
-pub returns-in-Some : goal.returns-in-Some
-returns-in-Some c pos =
+pub returns-in-Some-clause-strikes : goal.returns-in-Some-clause-strikes
+returns-in-Some-clause-strikes c pos =
     let o = c.args.obj in
     let b = c.args.block in
     let known = c.in-Some.known.now in
