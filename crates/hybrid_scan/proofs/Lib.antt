@@ -9,3 +9,4 @@ pub mod Handed
 pub mod Marks
 pub mod Runs
 pub mod Tested
+pub mod Known

@@ -7,6 +7,7 @@ use Rattle.column_codec.specs.Extent.{PlacedColumns, AreColumns}
 use Rattle.row_blocks.specs.declared.shard.Shard.{Shard}
 use Rattle.adg_model.specs.Sound.{IsLog}
 use Rattle.row_blocks.specs.Shards.{StandAtStart, shards_in}
+use Rattle.row_blocks.specs.Settled.{AreEachSettled}
 use Rattle.hybrid_scan.specs.Reader.{AreServing}
 
 abbrev second_and_last : Place → Bool
@@ -28,8 +29,8 @@ no_log : IsLog [] 0
 no_log = record { sound = tt; places = refl; scns = tt }
 
 -- shards to which nothing was applied serve each SCN
-pub new_serving : (shards : List Shard) (q : ℕ) → length shards ≡ 64 → StandAtStart (shards_in shards) → AreServing shards q
-new_serving shards q count start =
+pub new_serving : (shards : List Shard) (q : ℕ) → length shards ≡ 64 → StandAtStart (shards_in shards) → AreEachSettled [] shards → AreServing shards q
+new_serving shards q count start settled =
     let stand = start [] 0 no_log in
     record {
       count = count;
@@ -39,4 +40,5 @@ new_serving shards q count start =
       is_log = no_log;
       from_floor = omega arith;
       serve = λ n k. record { number = stand.numbers n k; stands = stand.each n k; applied = tt };
+      settled = settled;
     }

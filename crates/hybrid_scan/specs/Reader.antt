@@ -11,6 +11,7 @@ use Rattle.row_blocks.specs.declared.version.Version.{Version}
 use Rattle.adg_model.specs.Sound.{IsLog}
 use Rattle.row_blocks.specs.Pick.{Commits, picked_by}
 use Rattle.row_blocks.specs.Shards.{shards_in, Serves}
+use Rattle.row_blocks.specs.Settled.{AreEachSettled}
 
 -- a row with its address
 abbrev pub placed_at : Place → List Value → PlacedRow
@@ -29,7 +30,7 @@ abbrev pub StillCovers : (covers covers' : ℕ → Type 0) → (rows rows' : ℕ
 StillCovers covers covers' rows rows' = (q : ℕ) → covers q → covers' q × ((a : Place) → rows' q a ≡ rows q a)
 
 -- 64 shards cover an SCN where each serves one log at it, from a floor at or below it: all entries of the shard up to
--- the SCN are applied
+-- the SCN are applied; and what they know of settled versions is so in that log
 pub record AreServing (shards : List Shard) (q : ℕ) : Type 0 where
   pub count : length shards ≡ 64
   pub log : List LogEntry
@@ -38,3 +39,4 @@ pub record AreServing (shards : List Shard) (q : ℕ) : Type 0 where
   pub is_log : IsLog log frontier
   pub from_floor : floor ≤ q
   pub serve : (n : ℕ) → n < 64 → Serves (shards_in shards n) n log floor q
+  pub settled : AreEachSettled log shards

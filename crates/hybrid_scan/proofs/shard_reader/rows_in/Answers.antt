@@ -13,9 +13,9 @@ loop-slot-preserved g c =
     let commits = commits_in (shards_in c.args.shards.now) c.args.q in
     let n = c.loop-slot.slot in
     let at = found_is c.new.result c.unwrap-addr.result (place c.args.obj c.args.block n) c.new.ensures.value c.unwrap-addr.ensures in
-    let row = c.pick_in-row.ensures.row ∙ ap (picked_by commits) c.versions.ensures in
+    let row = c.pick_with-row.ensures.row ∙ ap (picked_by commits) c.versions.ensures in
     record {
       rows = c.in_ok-push_row.ensures.rows ∙ ap₂ (λ l x. l ++ option_to_list x) c.loop-slot.invariant.rows (ap₂ (λ a r. option_map (placed_at a) r) at row)
           ∙ sym (placed_more (picked_in commits c.args.found.now) c.args.obj c.args.block n);
-      cost = omega (arith, c.loop-slot.invariant.cost, c.pick_in-row.ensures.cost, c.in_ok-push_row.ensures.count);
+      cost = omega (arith, c.loop-slot.invariant.cost, c.pick_with-row.ensures.cost, c.in_ok-push_row.ensures.count);
     }
