@@ -49,11 +49,11 @@ own_end_first n t pos low (e ∷ es) x own places h =
         let nothing : None ≡ Some x = sym (ap (λ zs. end_of zs t) none) ∙ k in
         absurd cc
 
-pub ends_of_log : (log : List LogEntry) (frontier : ℕ) → IsLog log frontier → (shards : Shards) (floor : ℕ → ℕ)
-    → ((n : ℕ) → n < 64 → ((shards n).number ≡ n) × StandsFor (shards n) log (floor n)) → AreEndsOf log shards
-ends_of_log log frontier is shards floor stand t e h =
+pub ends_of_log : (log : List LogEntry) (frontier : ℕ) → IsLog log frontier → (shards : Shards)
+    → ((n : ℕ) → n < 64 → (floor : ℕ) × ((shards n).number ≡ n) × StandsFor (shards n) log floor) → AreEndsOf log shards
+ends_of_log log frontier is shards stand t e h =
     let s = stand (shard_of_txn t) (omega arith) in
-    own_end_first (shards (shard_of_txn t)).number t (shards (shard_of_txn t)).applied 0 log e (sym s.0) (placed 0 log is.places) (sym (s.1.ends t) ∙ h)
+    own_end_first (shards (shard_of_txn t)).number t (shards (shard_of_txn t)).applied 0 log e (sym s.1) (placed 0 log is.places) (sym (s.2.ends t) ∙ h)
 
 -- what ended up to a position counts, if it does, up to that position
 counted_upto : (q c upto : ℕ) (o : Option End) → EndsUpto upto o → counted q o ≡ Some c → c ≤ upto

@@ -29,7 +29,8 @@ use Rattle.standby_core.specs.Parts.{ShowsWorker, ShowsShard}
 use Rattle.standby_core.specs.Shows.{Shows, IsState, HasStepped}
 use Rattle.standby_core.proofs.Each.{each_left, each_right, each_set, set_same}
 use Rattle.standby_core.proofs.Kept.{with_workers, with_shards}
-use Rattle.standby_core.proofs.Shards.{same_stands, next_entry}
+use Rattle.row_blocks.proofs.Settling.{settled_same}
+use Rattle.standby_core.proofs.Shards.{same_stands, known_same, next_entry}
 
 module _ (core : Core) (c : CoreState) (h : IsState core c) where
   -- the worker of the state at a place
@@ -187,12 +188,12 @@ module _ (core : Core) (c : CoreState) (h : IsState core c) where
           shards : EachAt (ShowsShard c.log) ss.items (slice_set c.shards number new_s)
           shards = subst (λ l. EachAt (ShowsShard c.log) l (slice_set c.shards number new_s)) (sym ss_is)
               (each_set (ShowsShard c.log) core.shards.items c.shards h.shows.shards number t new_s
-              (record { number = takes.number ∙ rs.2.number; applied = takes.applied bound ∙ ap (λ n. max n (e.pos + 1)) rs.2.applied; stands = stands (cases_lt e.pos s.applied) }))
+              (record { number = takes.number ∙ rs.2.number; applied = takes.applied bound ∙ ap (λ n. max n (e.pos + 1)) rs.2.applied; stands = stands (cases_lt e.pos s.applied); settled = takes.settled bound c.log rs.2.settled }))
 
 -- where memory is wanting the shard keeps the same, and the core shows the same
 pub apply_stays : (core : Core) (c : CoreState) (number : ℕ) (s t : OwnShard) (ss : Vec OwnShard Global) → IsState core c → At core.shards.items number s
-    → SameKept (shown t) (shown s) → ss.items ≡ slice_set core.shards.items number t → Shows (record core { shards = ss }) c
-apply_stays core c number s t ss h at_s same ss_is =
+    → SameKept (shown t) (shown s) → t.settled ≡ s.settled → ss.items ≡ slice_set core.shards.items number t → Shows (record core { shards = ss }) c
+apply_stays core c number s t ss h at_s same known ss_is =
     subst (Shows (record core { shards = ss })) (same_state) (with_shards core c ss (slice_set c.shards number rs.0) h.shows shards)
   where
     rs : (y : Shard) × At c.shards number y × ShowsShard c.log number s y
@@ -204,4 +205,4 @@ apply_stays core c number s t ss h at_s same ss_is =
     shards : EachAt (ShowsShard c.log) ss.items (slice_set c.shards number rs.0)
     shards = subst (λ l. EachAt (ShowsShard c.log) l (slice_set c.shards number rs.0)) (sym ss_is)
         (each_set (ShowsShard c.log) core.shards.items c.shards h.shows.shards number t rs.0
-        (record { number = same.number ∙ rs.2.number; applied = same.applied ∙ rs.2.applied; stands = same_stands (shown s) (shown t) c.log rs.0.floor same rs.2.stands }))
+        (record { number = same.number ∙ rs.2.number; applied = same.applied ∙ rs.2.applied; stands = same_stands (shown s) (shown t) c.log rs.0.floor same rs.2.stands; settled = settled_same c.log s t same (known_same s t known) rs.2.settled }))

@@ -36,3 +36,4 @@ pub mod Populating
 pub mod Filling
 pub mod Installing
 pub mod Ahead
+pub mod Settles

@@ -7,6 +7,7 @@ use Rattle.adg_model.specs.Sound.{IsContinuation}
 use Rattle.row_blocks.specs.declared.shard.Shard.{Shard as OwnShard}
 use Rattle.row_blocks.specs.Shard.{shown}
 use Rattle.row_blocks.proofs.Together.{stands_continued}
+use Rattle.row_blocks.proofs.Settling.{settled_longer}
 use Rattle.core_rules.specs.Share.{share, is_shared_by}
 use Rattle.core_rules.specs.State.{CoreState, Worker, Shard, At}
 use Rattle.core_rules.specs.Applying.{Receives}
@@ -53,7 +54,7 @@ receive_shows core c entries frontier received ws few h continues count dealt = 
     shards n x s at_x at_s =
         let k : ShowsShard c.log n x s = h.shows.shards.each n x s at_x at_s in
         let floor : s.floor ≡ 0 = h.invariant.shards.floor n s at_s in
-        record { number = k.number; applied = k.applied; stands = stands_continued (shown x) c.log entries s.floor c.frontier frontier h.invariant.log continues (omega arith) k.stands }
+        record { number = k.number; applied = k.applied; stands = stands_continued (shown x) c.log entries s.floor c.frontier frontier h.invariant.log continues (omega arith) k.stands; settled = settled_longer c.log entries x k.settled }
 
     shows : Shows (record core { workers = ws; received = received; frontier = frontier }) next
     shows = record {

@@ -13,6 +13,10 @@ use Rattle.row_blocks.specs.Shard.{shown}
 use Rattle.row_blocks.specs.declared.version.Version.{Version}
 use Rattle.row_blocks.specs.Stands.{Kept, same_shard, is_own, own_below, is_open, StandsFor, IsNext, SameKept, StandsForMore, after_entry}
 use Rattle.row_blocks.specs.Versions.{versions_of, end_of}
+use Rattle.row_blocks.specs.Settled.{settled_or, settled_at, same_addr, AreSettled}
+use Rattle.row_blocks.proofs.Settling.{settled_entry}
+use Rattle.adg_base.specs.Address.{Place}
+use Rattle.std.specs.HashMap as hash
 use Rattle.row_blocks.specs.Law.{commits_at}
 use Rattle.row_blocks.specs.Pick.{picked_by}
 use Rattle.core_rules.specs.State.{At}
@@ -71,14 +75,19 @@ next_entry kept log frontier e is within own new closes = record {
         let less : k.0 < at.0 = b.1 in
         closes z (at_contains log k.0 z b.0) (own_shard kept.number (shard_of_vector z.vector) o) (omega arith)
 
+-- shards with the same map know the same
+pub known_same : (s t : OwnShard) → t.settled ≡ s.settled → (a : Place) → settled_at t a ≡ settled_at s a
+known_same s t same a = ap (λ m. settled_or (hash.get same_addr m a)) same
+
 -- what a call of a shard's makes of an entry
 pub takes : (s t : OwnShard) (e : LogEntry) (r : Applied) → r ≡ cond (nat_lt e.pos s.applied) Already Done → (r ≡ Already → t ≡ s)
-    → (r ≡ Done → e.pos + 1 < 2 ^ 64 → SameKept (shown t) (after_entry (shown s) e)) → (r ≡ Done → e.pos + 1 < 2 ^ 64 → StandsForMore (shown s) e (shown t)) → t.number ≡ s.number → TakesEntry s e t
-takes s t e r is already done stands number = record {
+    → (r ≡ Done → e.pos + 1 < 2 ^ 64 → SameKept (shown t) (after_entry (shown s) e)) → (r ≡ Done → e.pos + 1 < 2 ^ 64 → StandsForMore (shown s) e (shown t)) → t.number ≡ s.number → t.settled ≡ s.settled → TakesEntry s e t
+takes s t e r is already done stands number known = record {
   number = number;
   applied = λ few. by (cases_lt e.pos s.applied) few;
   already = λ l. already (is_already l);
   stands = λ l few. stands (is_done l) few;
+  settled = λ few log k. settles (cases_lt e.pos s.applied) few log k;
 }
   where
     is_already : e.pos < s.applied → r ≡ Already
@@ -90,3 +99,7 @@ takes s t e r is already done stands number = record {
     by : (e.pos < s.applied) ⊎ (s.applied ≤ e.pos) → e.pos + 1 < 2 ^ 64 → t.applied ≡ max s.applied (e.pos + 1)
     by (inl l) few = let same : t.applied ≡ s.applied = ap (λ (x : OwnShard). x.applied) (already (is_already l)) in omega arith
     by (inr l) few = let same : t.applied ≡ e.pos + 1 = (done (is_done l) few).applied in omega arith
+
+    settles : (e.pos < s.applied) ⊎ (s.applied ≤ e.pos) → e.pos + 1 < 2 ^ 64 → (log : List LogEntry) → AreSettled log s → AreSettled log t
+    settles (inl l) few log k = subst (AreSettled log) (sym (already (is_already l))) k
+    settles (inr l) few log k = settled_entry log s t e (done (is_done l) few) (known_same s t known) k

@@ -8,6 +8,7 @@ use Rattle.adg_base.specs.declared.node.DdlNode.{DdlNode}
 use Rattle.row_blocks.specs.declared.shard.Shard.{Shard as OwnShard}
 use Rattle.row_blocks.specs.Shard.{shown}
 use Rattle.row_blocks.specs.Stands.{StandsFor, Kept}
+use Rattle.row_blocks.specs.Settled.{AreEachSettled}
 use Rattle.row_blocks.specs.Shards.{shards_in, kept_or, StandAt, StandAtStart}
 use Rattle.row_blocks.proofs.Together.{log_none}
 use Rattle.column_units.specs.Shard as own
@@ -36,8 +37,8 @@ start_workers : (workers : ℕ) → EachAt (ShowsWorker workers []) (replicate w
 start_workers workers = each_replicate (ShowsWorker workers []) workers own_idle idle_worker
     (λ n l. record { share = refl; applied = refl; mined = refl; progress = refl; area = nothing_held; is_area = no_area; ends = refl })
 
-start_shards : (xs : List OwnShard) → length xs ≡ 64 → StandAtStart (shards_in xs) → EachAt (ShowsShard []) xs (replicate 64 empty_shard)
-start_shards xs count start = record { same_length = count ∙ sym (length-replicate 64 empty_shard); each = each }
+start_shards : (xs : List OwnShard) → length xs ≡ 64 → StandAtStart (shards_in xs) → AreEachSettled [] xs → EachAt (ShowsShard []) xs (replicate 64 empty_shard)
+start_shards xs count start settled = record { same_length = count ∙ sym (length-replicate 64 empty_shard); each = each }
   where
     at : StandAt (shards_in xs) [] [] 0
     at = start [] 0 log_none
@@ -52,7 +53,7 @@ start_shards xs count start = record { same_length = count ∙ sym (length-repli
         let upto : x.applied ≤ 0 = subst (λ (k : Kept). k.applied ≤ 0) is ((at.passed n few).upto) in
         let none : x.applied ≡ 0 = omega arith in
         let same : s ≡ empty_shard = at_replicate 64 n s empty_shard at_s in
-        subst (λ (y : Shard). ShowsShard [] n x y) (sym same) (record { number = number; applied = none; stands = stands })
+        subst (λ (y : Shard). ShowsShard [] n x y) (sym same) (record { number = number; applied = none; stands = stands; settled = settled n x at_x })
 
 start_units : (us : List own.Units) → AreEmpty us → ShowsUnits us no_units
 start_units us empty = record {
@@ -90,7 +91,7 @@ start_flush workers links held none free = record {
     no_link n x at = nothing_at n x (subst (λ l. At l n x) none at)
 
 pub start_shows : (alloc : Global) (workers sessions : ℕ) (ddl : List DdlNode) (ws : Vec OwnWorker Global) (ss : Vec OwnShard Global) (links : Vec OwnLink Global) (held : Vec (Option ℕ) Global) (us : Vec own.Units Global) (seats : Vec OwnSession Global)
-    → ddl ≡ [] → ws.items ≡ replicate workers own_idle → length ss.items ≡ 64 → StandAtStart (shards_in ss.items) → links.items ≡ [] → held.items ≡ replicate (workers + 1) None → AreEmpty us.items
+    → ddl ≡ [] → ws.items ≡ replicate workers own_idle → length ss.items ≡ 64 → StandAtStart (shards_in ss.items) → AreEachSettled [] ss.items → links.items ≡ [] → held.items ≡ replicate (workers + 1) None → AreEmpty us.items
     → seats.items ≡ replicate sessions own_session.Free
     → Shows (record {
       alloc = alloc;
@@ -108,7 +109,7 @@ pub start_shows : (alloc : Global) (workers sessions : ℕ) (ddl : List DdlNode)
       sessions = seats;
       ticket = 0;
     }) (opening workers sessions)
-start_shows alloc workers sessions ddl ws ss links held us seats d_is w_is count start none free empty s_is = record {
+start_shows alloc workers sessions ddl ws ss links held us seats d_is w_is count start settled none free empty s_is = record {
   worker_count = sym (length-replicate workers idle_worker);
   session_count = sym (length-replicate sessions rules.Free);
   received = refl;
@@ -117,7 +118,7 @@ start_shows alloc workers sessions ddl ws ss links held us seats d_is w_is count
   query = refl;
   born = refl;
   workers = subst (λ l. EachAt (ShowsWorker workers []) l (replicate workers idle_worker)) (sym w_is) (start_workers workers);
-  shards = start_shards ss.items count start;
+  shards = start_shards ss.items count start settled;
   ddl = d_is;
   flush = start_flush workers links held none free;
   units = start_units us.items empty;

@@ -59,4 +59,5 @@ module _ (core : Core) (c : CoreState) (q : ℕ) (h : IsState core c) (l : q ≤
     is_log = h.invariant.log;
     from_floor = omega arith;
     serve = store_serves;
+    settled = λ n shard at. (each_right (ShowsShard c.log) core.shards.items c.shards h.shows.shards n shard at).2.settled;
   }

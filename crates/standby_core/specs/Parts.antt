@@ -9,6 +9,7 @@ use Rattle.adg_journal.specs.Area.{IsArea}
 use Rattle.row_blocks.specs.declared.shard.Shard.{Shard as OwnShard}
 use Rattle.row_blocks.specs.Shard.{shown}
 use Rattle.row_blocks.specs.Stands.{StandsFor}
+use Rattle.row_blocks.specs.Settled.{AreSettled}
 use Rattle.column_codec.specs.Extent.{placed_rows}
 use Rattle.column_units.specs.declared.unit.Unit.{Unit as OwnUnit}
 use Rattle.column_units.specs.declared.unit.UnitState.{UnitState}
@@ -36,11 +37,13 @@ pub record ShowsWorker (workers : ℕ) (log : List LogEntry) (n : ℕ) (x : OwnW
   pub is_area : IsArea x.area
   pub ends : x.ends ≡ w.ends
 
--- a shard of the row store stands, at its place, for its own entries of the log below the position applied
+-- a shard of the row store stands, at its place, for its own entries of the log below the position applied, and what it
+-- knows of settled versions is so in the log
 pub record ShowsShard (log : List LogEntry) (n : ℕ) (x : OwnShard) (s : Shard) : Type 0 where
   pub number : x.number ≡ n
   pub applied : x.applied ≡ s.applied
   pub stands : StandsFor (shown x) log s.floor
+  pub settled : AreSettled log x
 
 -- the rows of a unit, where it has its columns
 abbrev pub rows_shown : UnitState → Option (List PlacedRow)

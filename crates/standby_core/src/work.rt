@@ -28,6 +28,7 @@ use ddl_table::DdlTable;
 use dictionary::Dictionary;
 use mining::mine;
 use row_blocks::shard::Shard;
+use row_blocks::shards::settle_in;
 
 impl Core {
     /// A worker applies the next entry of its share at the entry's shard.
@@ -48,7 +49,17 @@ impl Core {
         };
         apply_at(&mut self.shards[usize::from(number)], entry)?;
         self.workers[index].applied += 1;
+        self.settle(number);
         Ok(CoreAnswer::Moved)
+    }
+
+    /// Where it is time to look how many versions of an address of a shard are settled, does so.
+    fn settle(&mut self, number: u8)
+        requires within { number < 64 }
+        requires state { HasState self.old }
+        ensures { (c : CoreState) → IsState self.old c → Shows self.new c }
+    {
+        settle_in(&mut self.shards, number);
     }
 
     /// A worker mines the next entry that it has applied.
@@ -182,6 +193,7 @@ fn kind_of(flag: bool, committed: bool) -> NodeKind
 fn apply_at(shard: &mut Shard, entry: &LogEntry) -> Result<(), Memory>
     requires { shard_of_vector entry.now.vector ≡ Some shard.old.number }
     ensures ok { OnOk result (TakesEntry shard.old entry.now shard.new) }
+    ensures settled { shard.new.settled ≡ shard.old.settled }
     ensures err { OnErr result (SameKept (shown shard.new) (shown shard.old)) }
 {
     shard.apply(entry)?;
