@@ -1,6 +1,5 @@
 -- Lemmas on versions whose transactions have all ended.
-use Rattle.std.proofs.Common.{◌≡◌, ℕ, zero, suc, ◌+◌, ◌-◌, ◌<◌, ◌≤◌, Bool, true, false, cond, nat_lt, nat_le, max, get_or, slice_set, ◌&&◌, ◌||◌, List, [], ◌∷◌, ◌++◌, length, take, drop, length-append, Option, Some, None, is_some, Result, Ok, Err, OnOk, OnErr, ◌⊎◌, inl, inr, refl, sym, ap, ◌∙◌, subst, arith, true≢false}
-use Rattle.std.specs.HashMap as hash
+use Rattle.std.proofs.Common.{◌≡◌, ℕ, zero, suc, ◌+◌, ◌-◌, ◌<◌, ◌≤◌, Bool, true, false, cond, nat_lt, nat_le, max, get_or, slice_set, ◌&&◌, List, [], ◌∷◌, ◌++◌, length, take, drop, length-append, Option, Some, None, is_some, Result, Ok, Err, OnOk, OnErr, ◌⊎◌, inl, inr, refl, sym, ap, ◌∙◌, subst, arith, true≢false}
 use Rattle.std.specs.List.{AllByRecursion, list_any, slice_get}
 use Rattle.std.proofs.lemmas.Bool.{ltb-true, cases_eq, cases_lt}
 use Rattle.std.proofs.lemmas.Bool.Decides.{nat_tests}
@@ -19,9 +18,9 @@ use Rattle.row_blocks.specs.Pick.{Commits, Candidate, counted, candidate, later,
 use Rattle.row_blocks.specs.Best.{commits_behind}
 use Rattle.row_blocks.specs.Law.{commits_at}
 use Rattle.row_blocks.specs.Versions.{Deed, Makes, Strikes, stands, strike, after_deed, deed_at, earlier, end_by, end_of}
-use Rattle.row_blocks.specs.Stands.{Kept, IsSlot, is_own, own_below, StandsFor, SameKept, after_entry}
+use Rattle.row_blocks.specs.Stands.{IsSlot, is_own, own_below, StandsFor, SameKept, after_entry}
 use Rattle.row_blocks.specs.Shard.{shown}
-use Rattle.row_blocks.specs.Shards.{Shards, shards_in, kept_or, end_in, commits_in, Serves, KeepSame}
+use Rattle.row_blocks.specs.Shards.{Shards, commits_in, Serves}
 use Rattle.row_blocks.specs.Settled.{unsettled, settled_or, same_addr, EndsUpto, AreEnded, AreBehind, settled_at, AreSettled, AreEndsOf, AreEachSettled, SetsSettled}
 use Rattle.row_blocks.proofs.Walked.{Placed, placed, end_of_append}
 use Rattle.row_blocks.proofs.Stands.{end_own, own_none, placed_above, stands_end}
@@ -227,7 +226,7 @@ settles_each log xs i old new b s within at same sets more each n shard is = by_
     known a slot (inl e) = settled_by log old new a ((shown old).versions a) e (same.versions a slot) (each i old at a slot)
     known a slot (inr e) =
         let here : AreEnded (end_of log) ((shown old).versions a) s =
-            subst (λ p. AreEnded (end_of log) ((shown old).versions p) s) (sym e.0) (more (each i old at b (subst IsSlot e.0 slot))) in
+        subst (λ p. AreEnded (end_of log) ((shown old).versions p) s) (sym e.0) (more (each i old at b (subst IsSlot e.0 slot))) in
         subst (λ l. AreEnded (end_of log) l (settled_at new a)) (sym (same.versions a slot)) (subst (AreEnded (end_of log) ((shown old).versions a)) (sym e.1) here)
 
     by_place : ((n ≡ i) ⊎ (n ≡ i → ⊥)) → AreSettled log shard

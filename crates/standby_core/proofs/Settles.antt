@@ -48,7 +48,7 @@ settle_shows core c ss h count keep settles = with_shards core c ss c.shards h.s
         let within : n < length ss.items = at_within ss.items n y at_y in
         let kept : SameKept (shards_in ss.items n) (shards_in core.shards.items n) = keep n (omega (arith, count)) in
         let same : SameKept (shown y) (shown x.0) =
-            subst (λ o. SameKept (kept_or n o) (shown x.0)) at_y (subst (λ o. SameKept (shards_in ss.items n) (kept_or n o)) x.1 kept) in
+        subst (λ o. SameKept (kept_or n o) (shown x.0)) at_y (subst (λ o. SameKept (shards_in ss.items n) (kept_or n o)) x.1 kept) in
         record {
           number = same.number ∙ x.2.number;
           applied = same.applied ∙ x.2.applied;

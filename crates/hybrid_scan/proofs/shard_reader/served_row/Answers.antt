@@ -1,5 +1,4 @@
 use Rattle.std.proofs.Common.{arith}
-use Rattle.row_blocks.specs.Shards.{shards_in}
 use Rattle.adg_base.specs.Shard.{shard_of_block}
 use Rattle.hybrid_scan.proofs.Known.{known_behind}
 use Rattle.hybrid_scan.proofs.shard_reader.served_row.Goals as goal

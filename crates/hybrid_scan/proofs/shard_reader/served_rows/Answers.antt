@@ -1,5 +1,4 @@
-use Rattle.std.proofs.Common.{Some, refl, sym, ap, ◌∙◌}
-use Rattle.std.proofs.lemmas.Option.{same_Some}
+use Rattle.std.proofs.Common.{refl, ◌∙◌}
 use Rattle.adg_base.specs.Address.{place}
 use Rattle.row_blocks.specs.Shards.{shards_in, versions_in}
 use Rattle.hybrid_scan.proofs.Known.{known_versions}

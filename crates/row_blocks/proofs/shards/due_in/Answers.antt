@@ -13,7 +13,7 @@ returns c log shard ends at known =
     let found = c.index-shards-from.result in
     let within : c.from.result < length c.args.shards.now = omega (arith, c.requires, c.from.ensures) in
     let same : shard ≡ found =
-        same_Some shard found (sym at ∙ ap (slice_get c.args.shards.now) (sym c.from.ensures) ∙ slice_get-get_or c.args.shards.now c.from.result found within ∙ ap Some (sym c.index-shards-from.is)) in
+    same_Some shard found (sym at ∙ ap (slice_get c.args.shards.now) (sym c.from.ensures) ∙ slice_get-get_or c.args.shards.now c.from.result found within ∙ ap Some (sym c.index-shards-from.is)) in
     let versions : c.versions.result.now ≡ (shown shard).versions addr = c.versions.ensures ∙ ap (λ (x : Shard). (shown x).versions addr) (sym same) in
     let settled : c.settled.result ≡ settled_at shard addr = c.settled.ensures ∙ ap (λ (x : Shard). settled_at x addr) (sym same) in
     subst (λ vs. AreEnded (log_end log) vs c.more_settled-settled.result) versions

@@ -1,4 +1,4 @@
-use Rattle.std.proofs.Common.{[], ◌∷◌, ◌++◌, Some, None, sym, ap, subst, ◌∙◌}
+use Rattle.std.proofs.Common.{[], ◌∷◌, ◌++◌, Some, None, ap, subst, ◌∙◌}
 use Rattle.std.proofs.lemmas.Result.{on_ok_weaker, on_err_weaker}
 use Rattle.row_blocks.specs.Held.{slots_from, IsPlaceOf}
 use Rattle.row_blocks.proofs.Held.{few, sets_read, sets_first, kept_after, set_same, on_both}

@@ -1,4 +1,4 @@
-use Rattle.std.proofs.Common.{[], Some, None, refl, sym, ap, subst, ◌∙◌}
+use Rattle.std.proofs.Common.{Some, None, refl, subst}
 use Rattle.row_blocks.specs.Versions.{strike}
 use Rattle.row_blocks.specs.Held.{IsPlaceOf}
 use Rattle.row_blocks.proofs.Held.{sets_read, sets_nothing}

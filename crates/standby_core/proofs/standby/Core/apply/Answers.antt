@@ -78,9 +78,9 @@ settle-requires-clause-state c =
     let ws = with_item core.workers i (record y { applied = y.applied + 1 }) in
     let ss = with_item core.shards number c.apply_at.new.shard in
     let moved : HasStepped (record core { workers = ws; shards = ss }) c' (event.Apply c.args.worker) Moved =
-        subst (λ w. HasStepped (record core { workers = ws; shards = ss }) c' (event.Apply w) Moved) c.from-index.ensures
-        (apply_moves core c' h i x at e next number s c.apply_at.new.shard ws ss own at_s c.in_ok-apply_at.ensures.ok
-        (ap (λ (w : Worker). slice_set core.workers.items i (record w { applied = w.applied + 1 })) same) refl) in
+    subst (λ w. HasStepped (record core { workers = ws; shards = ss }) c' (event.Apply w) Moved) c.from-index.ensures
+    (apply_moves core c' h i x at e next number s c.apply_at.new.shard ws ss own at_s c.in_ok-apply_at.ensures.ok
+    (ap (λ (w : Worker). slice_set core.workers.items i (record w { applied = w.applied + 1 })) same) refl) in
     record { state = moved.next; is = record { shows = moved.shows; invariant = steps_keep_invariant c' (event.Apply c.args.worker) Moved moved.next moved.steps h.invariant } }
 
 pub returns-clause-ok : goal.returns-clause-ok
@@ -105,9 +105,9 @@ returns-clause-ok c c' h =
     let ws = with_item core.workers i (record y { applied = y.applied + 1 }) in
     let ss = with_item core.shards number c.apply_at.new.shard in
     let moved : HasStepped (record core { workers = ws; shards = ss }) c' (event.Apply c.args.worker) Moved =
-        subst (λ w. HasStepped (record core { workers = ws; shards = ss }) c' (event.Apply w) Moved) c.from-index.ensures
-        (apply_moves core c' h i x at e next number s c.apply_at.new.shard ws ss own at_s c.in_ok-apply_at.ensures.ok
-        (ap (λ (w : Worker). slice_set core.workers.items i (record w { applied = w.applied + 1 })) same) refl) in
+    subst (λ w. HasStepped (record core { workers = ws; shards = ss }) c' (event.Apply w) Moved) c.from-index.ensures
+    (apply_moves core c' h i x at e next number s c.apply_at.new.shard ws ss own at_s c.in_ok-apply_at.ensures.ok
+    (ap (λ (w : Worker). slice_set core.workers.items i (record w { applied = w.applied + 1 })) same) refl) in
     record {
       next = moved.next;
       steps = moved.steps;
