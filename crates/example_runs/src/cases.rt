@@ -14,7 +14,7 @@ const ONE: &[&str] = &["1"];
 const SOME: &[&str] = &["1", "2", "8"];
 
 /// The worked cases.
-pub static CASES: [Case; 31] = [
+pub static CASES: [Case; 32] = [
     Case {
         name: "first_answer_no_such_table",
         workers: SOME,
@@ -77,6 +77,12 @@ pub static CASES: [Case; 31] = [
     },
     Case {
         name: "commit_position_wins",
+        workers: SOME,
+        any_schedule: true,
+        status: 0,
+    },
+    Case {
+        name: "settled_versions",
         workers: SOME,
         any_schedule: true,
         status: 0,
