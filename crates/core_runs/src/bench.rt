@@ -57,7 +57,7 @@ impl Bench {
         }
         let delivery = self.raw_delivery(redo)?;
         let checked = self.intake.take(delivery)?;
-        self.core.receive(&checked)?;
+        self.core.receive(checked.entries, checked.frontier)?;
         self.delivered = delivered;
         Ok(())
     }

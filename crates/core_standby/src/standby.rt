@@ -36,7 +36,7 @@ impl CoreStandby {
             Err(IntakeRefused::Memory) => return Err(Unanswered::Memory),
         };
         let dictionary = self.intake.dictionary();
-        let lines = run_delivery(alloc, &mut self.core, &checked, dictionary)?;
+        let lines = run_delivery(alloc, &mut self.core, checked, dictionary)?;
         Ok(lines)
     }
 }

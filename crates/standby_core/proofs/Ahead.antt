@@ -1,5 +1,5 @@
 -- What the looks at a core tell of what can be done next.
-use Rattle.std.proofs.Common.{◌≡◌, ℕ, suc, ◌+◌, ◌-◌, ◌<◌, ◌≤◌, min, Bool, true, false, cond, ◌&&◌, List, [], ◌∷◌, length, map, drop, drop-cons, Option, Some, None, ◌⊎◌, inl, inr, refl, sym, ap, ◌∙◌, subst, arith}
+use Rattle.std.proofs.Common.{◌≡◌, ℕ, suc, ◌+◌, ◌<◌, ◌≤◌, min, Bool, true, false, cond, ◌&&◌, List, [], ◌∷◌, length, map, drop, drop-cons, Option, Some, None, ◌⊎◌, inl, inr, refl, sym, ap, ◌∙◌, subst, arith}
 use Rattle.std.specs.Prelude.{IfSome, slice_get, nat_lt, nat_le, count_by, ◌==◌}
 use Rattle.std.specs.List.{list_all, list_any}
 use Rattle.std.proofs.lemmas.Bool.{lt-ltb, le-ltb, le-leb, leb-true, eqb-true, eqb-false, eq-eqb, ne_eqb, cases_lt}
@@ -22,13 +22,11 @@ use Rattle.standby_core.specs.declared.session.Session.{Session as OwnSession}
 use Rattle.standby_core.specs.declared.session.Session.TheVariants as seat
 use Rattle.standby_core.specs.declared.standby.Core.{Core}
 use Rattle.standby_core.specs.declared.worker.Worker.{Worker as OwnWorker}
-use Rattle.standby_core.specs.Each.{EachAt}
 use Rattle.standby_core.specs.Links.{quiesce_shown, stage_with, is_unclaimed, is_finished, ShowsLink}
 use Rattle.standby_core.specs.Parts.{ShowsSession, ShowsWorker}
 use Rattle.standby_core.specs.Shows.{IsState}
 use Rattle.standby_core.specs.Duty.{HasCursor, CanFlush, cursor_in, below_next, through_mined, least_progress, lowest, duty_of, own_duty}
-use Rattle.standby_core.proofs.Applied.{worker_back, no_worker}
-use Rattle.standby_core.proofs.Claiming.{bit, count_cons, count_less}
+use Rattle.standby_core.proofs.Claiming.{bit, count_cons}
 use Rattle.standby_core.proofs.Each.{each_left}
 use Rattle.standby_core.proofs.HeldLinks.{HeldLink, held_link, held_number}
 

@@ -1,10 +1,10 @@
 -- A core whose shards know more of settled versions shows the same state.
 use Rattle.std.specs.Vec.{with_items}
-use Rattle.std.proofs.Common.{◌≡◌, ℕ, ◌<◌, List, length, Some, sym, ap, ◌∙◌, subst, arith, Vec, Global}
+use Rattle.std.proofs.Common.{◌≡◌, ℕ, ◌<◌, List, length, sym, ap, ◌∙◌, subst, arith, Vec, Global}
 use Rattle.std.proofs.lemmas.List.{with_items_is}
 use Rattle.adg_base.specs.declared.log.LogEntry.{LogEntry}
 use Rattle.row_blocks.specs.declared.shard.Shard.{Shard as OwnShard}
-use Rattle.row_blocks.specs.Stands.{Kept, SameKept, StandsFor}
+use Rattle.row_blocks.specs.Stands.{SameKept, StandsFor}
 use Rattle.row_blocks.specs.Shard.{shown}
 use Rattle.row_blocks.specs.Shards.{shards_in, kept_or, KeepSame}
 use Rattle.row_blocks.specs.Settled.{AreEndsOf, AreEachSettled}
@@ -12,7 +12,6 @@ use Rattle.row_blocks.proofs.Settling.{ends_of_log}
 use Rattle.core_rules.specs.State.{CoreState, Shard, At}
 use Rattle.core_rules.proofs.Lists.{at_exists, at_within}
 use Rattle.standby_core.specs.declared.standby.Core.{Core}
-use Rattle.standby_core.specs.Each.{EachAt}
 use Rattle.standby_core.specs.Parts.{ShowsShard}
 use Rattle.standby_core.specs.Shows.{Shows, IsState}
 use Rattle.standby_core.proofs.Each.{each_left, each_right}

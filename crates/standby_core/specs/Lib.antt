@@ -5,6 +5,7 @@ pub mod Parts
 pub mod Shows
 pub mod Looks
 pub mod Steps
+pub mod Crew
 pub mod Received
 pub mod Entries
 pub mod Mining

@@ -5,6 +5,7 @@
 mod begin_flush;
 mod claim;
 mod collect;
+pub mod crew;
 pub mod duties;
 mod extent;
 mod fill;

@@ -8,27 +8,27 @@ ghost use Rattle.standby_core.specs.Received.{CanReceive, HasReceived, AreDealt,
 
 use crate::standby::Core;
 use crate::worker::Worker;
-use adg_base::list::Duplicate;
-use adg_base::log::LogEntry;
+use adg_base::log::{EntryList, LogEntry};
 use adg_base::memory::Memory;
+use adg_base::number::Scn;
 use adg_base::shard::{shard_of, worker_of};
-use adg_model::delivery::CheckedDelivery;
 use std::alloc::Global;
 
 impl Core {
-    /// Receives the entries of a delivery, each into the share of its worker, and its frontier.
-    pub fn receive(&mut self, delivery: &CheckedDelivery) -> Result<(), Memory>
-        requires { CanReceive self.old delivery.now.entries delivery.now.frontier }
-        ensures ok { OnOk result ((c : CoreState) → IsState self.old c → IsContinuation c.log c.frontier delivery.now.entries delivery.now.frontier → HasReceived self.new c delivery.now.entries delivery.now.frontier) }
+    /// Receives the entries of a delivery, each into the share of its worker, and its frontier. The
+    /// entries are moved, so that no row is counted for it. After `Memory` they are gone.
+    pub fn receive(&mut self, entries: EntryList, frontier: Scn) -> Result<(), Memory>
+        requires { CanReceive self.old entries frontier }
+        ensures ok { OnOk result ((c : CoreState) → IsState self.old c → IsContinuation c.log c.frontier entries frontier → HasReceived self.new c entries frontier) }
         ensures err { OnErr result ((c : CoreState) → IsState self.old c → IsState self.new c) }
     {
-        let entries = delivery.entries.as_slice();
+        let entries = entries.into_vec();
         let Some(received) = self.received.checked_add(entries.len() as u64) else {
             return Err(Memory);
         };
         deal_whole(self.alloc, &mut self.workers, self.worker_count, entries)?;
         self.received = received;
-        self.frontier = delivery.frontier;
+        self.frontier = frontier;
         Ok(())
     }
 }
@@ -38,15 +38,15 @@ fn deal_whole(
     alloc: Global,
     workers: &mut [Worker],
     count: u8,
-    entries: &[LogEntry],
+    entries: Vec<LogEntry>,
 ) -> Result<(), Memory>
     requires some { 0 < count }
     requires count { length workers.old ≡ count }
-    ensures ok { OnOk result (AreDealt entries.now workers.old workers.new) }
+    ensures ok { OnOk result (AreDealt entries.items workers.old workers.new) }
     ensures err { OnErr result (workers.new ≡ workers.old) }
 {
     let counts = counts_of(alloc, workers)?;
-    match deal(alloc, workers, count, entries) {
+    match deal(workers, count, entries) {
         Ok(()) => Ok(()),
         Err(memory) => {
             cut_back(workers, counts.as_slice());
@@ -67,38 +67,28 @@ fn counts_of(alloc: Global, workers: &[Worker]) -> Result<Vec<usize>, Memory>
 }
 
 /// Deals entries out in their order. After want of memory some may have been dealt.
-fn deal(
-    alloc: Global,
-    workers: &mut [Worker],
-    count: u8,
-    entries: &[LogEntry],
-) -> Result<(), Memory>
+fn deal(workers: &mut [Worker], count: u8, entries: Vec<LogEntry>) -> Result<(), Memory>
     requires some { 0 < count }
     requires count { length workers.old ≡ count }
-    ensures ok { OnOk result (AreDealt entries.now workers.old workers.new) }
+    ensures ok { OnOk result (AreDealt entries.items workers.old workers.new) }
     ensures err { OnErr result (EachAt HasMore workers.old workers.new) }
 {
     for entry in entries {
-        deal_one(alloc, workers, count, entry)?;
+        deal_one(workers, count, entry)?;
     }
     Ok(())
 }
 
 /// Adds an entry to the share that it is of, if it is of one.
-fn deal_one(
-    alloc: Global,
-    workers: &mut [Worker],
-    count: u8,
-    entry: &LogEntry,
-) -> Result<(), Memory>
+fn deal_one(workers: &mut [Worker], count: u8, entry: LogEntry) -> Result<(), Memory>
     requires some { 0 < count }
     requires count { length workers.old ≡ count }
-    ensures ok { OnOk result (AreDealt (entry.now ∷ []) workers.old workers.new) }
+    ensures ok { OnOk result (AreDealt (entry ∷ []) workers.old workers.new) }
     ensures err { OnErr result (workers.new ≡ workers.old) }
 {
     if let Some(number) = shard_of(&entry.vector) {
         let worker = usize::from(worker_of(number, count));
-        workers[worker].share.push(entry.copy(alloc)?)?;
+        workers[worker].share.push(entry)?;
     }
     Ok(())
 }

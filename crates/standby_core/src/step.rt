@@ -4,6 +4,7 @@ ghost use Rattle.dictionary.specs.Standing.{StandsFor};
 ghost use Rattle.standby_core.specs.Shows.{IsState, HasState};
 ghost use Rattle.standby_core.specs.Steps.{Keeps, TakesNoMemory};
 
+use crate::crew::CrewEvent;
 use crate::standby::Core;
 use adg_base::memory::Memory;
 use core_rules::event::{CoreAnswer, Event};
@@ -19,15 +20,19 @@ impl Core {
         ensures sure { TakesNoMemory event → IsOk result }
     {
         match event {
-            Event::Apply { worker } => self.apply(worker),
-            Event::Mine { worker } => self.mine(worker, dictionary),
-            Event::Raise { worker, through } => Ok(self.raise(worker, through)),
-            Event::BeginFlush { through } => self.begin_flush(through),
-            Event::Claim { actor } => Ok(self.claim(actor)),
-            Event::Collect { actor } => Ok(self.collect(actor)),
-            Event::Touch { actor } => Ok(self.touch(actor)),
-            Event::Done { actor } => Ok(self.done(actor)),
-            Event::Publish => Ok(self.publish()),
+            Event::Apply { worker } => self.answer_crew(CrewEvent::Apply { worker }, dictionary),
+            Event::Mine { worker } => self.answer_crew(CrewEvent::Mine { worker }, dictionary),
+            Event::Raise { worker, through } => {
+                self.answer_crew(CrewEvent::Raise { worker, through }, dictionary)
+            }
+            Event::BeginFlush { through } => {
+                self.answer_crew(CrewEvent::BeginFlush { through }, dictionary)
+            }
+            Event::Claim { actor } => self.answer_crew(CrewEvent::Claim { actor }, dictionary),
+            Event::Collect { actor } => self.answer_crew(CrewEvent::Collect { actor }, dictionary),
+            Event::Touch { actor } => self.answer_crew(CrewEvent::Touch { actor }, dictionary),
+            Event::Done { actor } => self.answer_crew(CrewEvent::Done { actor }, dictionary),
+            Event::Publish => self.answer_crew(CrewEvent::Publish, dictionary),
             Event::Restart => Ok(self.restart()),
             Event::PopBegin { session, obj } => self.pop_begin(session, obj, dictionary),
             Event::PopRegister { session } => self.pop_register(session),

@@ -1,13 +1,13 @@
 -- What a session does for a request, by what the look at it tells.
-use Rattle.std.proofs.Common.{◌≡◌, ℕ, ◌+◌, Bool, true, false, cond, Some, ◌⊎◌, inl, inr, refl, sym, ap, ◌∙◌}
+use Rattle.std.proofs.Common.{◌≡◌, ℕ, Bool, true, false, cond, Some, ◌⊎◌, inl, inr, refl, sym, ap, ◌∙◌}
 use Rattle.std.specs.Prelude.{nat_lt}
 use Rattle.adg_base.specs.declared.command.Select.{Select}
 use Rattle.core_rules.specs.declared.event.Event.TheVariants as event
-use Rattle.core_rules.specs.State.{CoreState, Population, Scan, Session, Free, Populating, Scanning, is_flushing}
+use Rattle.core_rules.specs.State.{CoreState, Session, Free, Populating, Scanning, is_flushing}
 use Rattle.standby_core.specs.declared.duties.Duty.{Duty}
 use Rattle.standby_core.specs.declared.duties.Duty.TheVariants as duty
 use Rattle.standby_core.specs.Duty.{duty_of}
-use Rattle.turn_rules.specs.Picks.{Act, Rests, Makes, population_event, populate_act, scan_event, select_act}
+use Rattle.turn_rules.specs.Picks.{Act, Rests, Makes, populate_act, select_act}
 
 -- what is done for a POPULATE, and for a SELECT, by what comes next of what the session has begun
 abbrev pub populate_by : (flushing : Bool) (session obj : ℕ) → Duty → Act

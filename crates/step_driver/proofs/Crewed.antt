@@ -1,16 +1,16 @@
 -- What the coordinator and a worker do, by what the looks at a core tell.
-use Rattle.std.proofs.Common.{◌≡◌, ℕ, ◌+◌, ◌<◌, ◌≤◌, Bool, true, false, cond, ◌&&◌, length, Option, Some, None, refl, sym, ap, ◌∙◌, subst}
+use Rattle.std.proofs.Common.{◌≡◌, ℕ, ◌<◌, ◌≤◌, true, false, cond, ◌&&◌, length, Option, Some, None, refl, sym, ap, ◌∙◌, subst}
 use Rattle.std.specs.Prelude.{slice_get, nat_lt}
-use Rattle.std.proofs.lemmas.Bool.{lt-ltb, le-ltb, and_from, and_left}
+use Rattle.std.proofs.lemmas.Bool.{lt-ltb, le-ltb, and_from}
 use Rattle.adg_base.specs.declared.log.LogEntry.{LogEntry}
 use Rattle.core_rules.specs.declared.event.Event.{Event}
 use Rattle.core_rules.specs.declared.event.Event.TheVariants as event
-use Rattle.core_rules.specs.State.{CoreState, Worker, Quiesce, Idle, Shared, Flushing, At, share_of, is_flushing}
+use Rattle.core_rules.specs.State.{CoreState, Worker, Quiesce, Idle, Shared, Flushing, share_of, is_flushing}
 use Rattle.standby_core.specs.declared.standby.Core.{Core}
 use Rattle.standby_core.specs.Duty.{HasCursor, CanFlush, below_next, through_mined}
 use Rattle.standby_core.specs.Duty as look
 use Rattle.standby_core.specs.Shows.{IsState}
-use Rattle.turn_rules.specs.Picks.{Act, Rests, Makes, cursor_of, link_event, link_act, has_unclaimed, are_finished, is_idle, least_progress, flushing_act, calm_act, coordinator_act, below_entry, mined_through, share_act, worker_act}
+use Rattle.turn_rules.specs.Picks.{Act, Rests, Makes, cursor_of, link_event, link_act, has_unclaimed, is_idle, least_progress, flushing_act, calm_act, below_entry, mined_through, share_act}
 use Rattle.turn_rules.proofs.Cursors.{cursor_of_holder, cursor_of_nobody}
 
 -- the SCN through which a worker is mined

@@ -1,5 +1,5 @@
 -- A delivery of the driver is one of the rule.
-use Rattle.std.proofs.Common.{◌≡◌, ℕ, false, List, [], ◌∷◌, ◌++◌, length, inl, inr, refl, sym, ap, ap₂, ◌∙◌, subst}
+use Rattle.std.proofs.Common.{◌≡◌, ℕ, false, List, ◌∷◌, length, inr, refl, sym, ap, ap₂, ◌∙◌, subst}
 use Rattle.adg_base.specs.declared.command.CommandText.{CommandText}
 use Rattle.adg_base.specs.declared.answer.Line.{Line}
 use Rattle.adg_base.specs.declared.answer.Lines.{Lines}
@@ -8,9 +8,8 @@ use Rattle.dictionary.specs.Standing.{Known, StandsFor}
 use Rattle.core_rules.specs.State.{CoreState}
 use Rattle.core_rules.specs.Runs.{Gets}
 use Rattle.standby_core.specs.declared.standby.Core.{Core}
-use Rattle.standby_core.specs.Shows.{IsState}
 use Rattle.standby_core.specs.Received.{HasReceived}
-use Rattle.turn_rules.specs.Round.{Round, AreSeats, opening_round}
+use Rattle.turn_rules.specs.Round.{AreSeats, opening_round}
 use Rattle.turn_rules.specs.Turns.{Plays}
 use Rattle.turn_rules.specs.Telling.{seats_lines, lines_of}
 use Rattle.turn_rules.specs.Delivery.{Delivers, IsReady}

@@ -1,19 +1,17 @@
 -- Turns one after another.
-use Rattle.std.proofs.Common.{◌≡◌, ℕ, ◌+◌, ◌-◌, ◌*◌, ◌%◌, ◌<◌, ◌≤◌, Bool, true, false, cond, ◌&&◌, ◌||◌, List, [], ◌∷◌, ◌++◌, length, map, Option, Some, None, ◌⊎◌, inl, inr, refl, sym, ap, ◌∙◌, subst, arith, true≢false, zero-add, mul-add}
-use Rattle.std.specs.Prelude.{not, ◌==◌, count_by, slice_get}
-use Rattle.std.specs.List.{AllByRecursion, list_all}
+use Rattle.std.proofs.Common.{◌≡◌, ℕ, ◌+◌, ◌-◌, ◌*◌, ◌%◌, ◌<◌, ◌≤◌, Bool, true, false, cond, ◌&&◌, ◌||◌, List, [], ◌∷◌, ◌++◌, length, Option, ◌⊎◌, inl, inr, refl, sym, ap, ◌∙◌, subst, arith, true≢false, zero-add, mul-add}
+use Rattle.std.specs.Prelude.{not, ◌==◌, count_by}
+use Rattle.std.specs.List.{list_all}
 use Rattle.std.proofs.Math.Nat.{mul-add-mod_self_left, mod-eq_of_lt, mul_comm}
 use Rattle.std.proofs.lemmas.Bool.{cases_lt, ne_eqb}
 use Rattle.std.proofs.lemmas.List.Sums.{sum_by-cons}
 use Rattle.dictionary.specs.Standing.{Known}
 use Rattle.core_rules.specs.State.{CoreState, At}
-use Rattle.core_rules.specs.Runs.{Move, Makes, Leads}
+use Rattle.core_rules.specs.Runs.{Move, Leads}
 use Rattle.core_rules.proofs.Lists.{each_append}
 use Rattle.standby_core.specs.declared.standby.Core.{Core}
-use Rattle.standby_core.specs.Shows.{IsState}
 use Rattle.turn_rules.specs.Round.{Seat, is_through, Round, actors, is_over}
-use Rattle.turn_rules.specs.Picks.{Rests, actor_of, act_of, number_at}
-use Rattle.turn_rules.specs.Turns.{TakesTurn, Plays, moves_of}
+use Rattle.turn_rules.specs.Turns.{Plays, moves_of}
 use Rattle.turn_rules.specs.Standing.{RoundIs}
 use Rattle.turn_rules.specs.Delivery.{IsTaken}
 use Rattle.turn_rules.proofs.Kept.{turns_keep_rounds, rounds_are_runs}
@@ -22,9 +20,9 @@ use Rattle.turn_rules.proofs.Ended.{as_many}
 use Rattle.turn_rules.proofs.Waits.{nobody_waits}
 use Rattle.turn_rules.proofs.Driving.{plays_more, number_inside, number_behind}
 use Rattle.step_driver.specs.declared.seats.Seats.{Seats}
-use Rattle.step_driver.specs.Seating.{seats_shown, is_waiting, IsCounted}
+use Rattle.step_driver.specs.Seating.{seats_shown, is_waiting}
 use Rattle.step_driver.specs.Work.{work_left}
-use Rattle.step_driver.specs.Rounds.{ShowsRound, GoesOn, AreActors, IsActor, IsTurnOf, HasTurned, HasRested, HaveRested, RestsAt, RestsOrActs, RestOrAct, HasPlayed, HasPlayedOn, HasPlayedTo, HasPlayedBehind, IsBehind, HasEnded, HasStopped}
+use Rattle.step_driver.specs.Rounds.{ShowsRound, IsTurnOf, HasTurned, RestsAt, RestsOrActs, RestOrAct, HasPlayed, HasPlayedOn, HasPlayedTo, HasPlayedBehind, HasStopped}
 
 -- no turns
 pub played_none : (known : Known) (core : Core) (seats : Seats) (schedule : List ℕ) (r : Round) → ShowsRound known core seats r → HasPlayedOn known core seats schedule r r.turns

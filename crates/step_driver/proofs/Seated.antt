@@ -1,25 +1,23 @@
 -- The seats of a driver: what is read for them, and what is told to them.
-use Rattle.std.proofs.Common.{◌≡◌, ℕ, zero, suc, ◌+◌, ◌-◌, ◌<◌, ◌≤◌, Bool, true, false, cond, ◌&&◌, List, [], ◌∷◌, ◌++◌, length, map, take, get_or, Option, Some, None, ◌⊎◌, inl, inr, refl, sym, ap, ◌∙◌, subst, arith, true≢false, append_assoc, append-nil, length-append, add_assoc}
-use Rattle.std.specs.Prelude.{not, ◌==◌, nat_le, nat_lt, count_by, slice_get, slice_set, replicate, option_map}
+use Rattle.std.proofs.Common.{◌≡◌, ℕ, zero, suc, ◌+◌, ◌-◌, ◌<◌, ◌≤◌, Bool, cond, List, [], ◌∷◌, ◌++◌, length, map, get_or, Option, Some, None, ◌⊎◌, inl, inr, refl, sym, ap, ◌∙◌, subst, arith, append_assoc, append-nil}
+use Rattle.std.specs.Prelude.{count_by, slice_get, slice_set, replicate}
 use Rattle.std.specs.List.{AllZip, filter_map, cons_option}
-use Rattle.std.proofs.lemmas.Bool.{ne_eqb, eq-eqb, eqb-true, le-leb, lt-ltb, leb-true, leb-false, cases_lt}
+use Rattle.std.proofs.lemmas.Bool.{ne_eqb, eq-eqb}
 use Rattle.std.proofs.lemmas.List.{length-map, length-set}
 use Rattle.std.proofs.lemmas.List.Elements.{filter_map-append}
 use Rattle.std.proofs.lemmas.List.Sums.{sum_by-set, get_or-le-sum_by}
 use Rattle.std.proofs.lemmas.Option.{slice_get_past, get_or_from_slice_get}
 use Rattle.adg_base.specs.declared.command.CommandText.{CommandText}
 use Rattle.adg_base.specs.declared.answer.Reply.{Reply}
-use Rattle.adg_base.specs.declared.answer.Line.{Line}
 use Rattle.adg_model.specs.Transcript.{text_of, texts_of}
 use Rattle.core_rules.specs.State.{At}
-use Rattle.core_rules.proofs.Lists.{at_same, at_within, at_map, at_map_back, at_set_cases, map_set}
-use Rattle.turn_rules.specs.Round.{Request, Reads, Seat, is_through, at_hand, IsSeat, AreSeats}
+use Rattle.core_rules.proofs.Lists.{at_within, at_map, at_map_back, at_set_cases, map_set}
+use Rattle.turn_rules.specs.Round.{Request, Reads, Seat, IsSeat, AreSeats}
 use Rattle.turn_rules.specs.Turns.{with_reply, told_at}
 use Rattle.turn_rules.specs.Telling.{session_lines, seats_lines, all_replies}
 use Rattle.step_driver.specs.declared.request.Request.{Request as OwnRequest}
 use Rattle.step_driver.specs.declared.seat.Seat.{Seat as OwnSeat}
-use Rattle.step_driver.specs.declared.seats.Seats.{Seats}
-use Rattle.step_driver.specs.Seating.{request_shown, seat_shown, seats_shown, is_waiting, AreRead, TakesText, hand_of}
+use Rattle.step_driver.specs.Seating.{request_shown, seat_shown, is_waiting, AreRead, TakesText}
 
 -- the seats of a round have what the driver's have
 pub seats_read : (sessions : ℕ) (commands : List CommandText) (xs : List OwnSeat) → length xs ≡ sessions → AreRead commands xs → AreSeats sessions commands (map seat_shown xs)

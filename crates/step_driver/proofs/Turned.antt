@@ -8,10 +8,13 @@ use Rattle.core_rules.specs.declared.event.Event.{Event}
 use Rattle.core_rules.specs.State.{CoreState}
 use Rattle.core_rules.specs.Runs.{Move, Takes}
 use Rattle.standby_core.specs.declared.standby.Core.{Core}
+use Rattle.standby_core.specs.declared.crew.CrewEvent.{CrewEvent}
+use Rattle.standby_core.specs.Crew.{event_of, answer_of}
 use Rattle.standby_core.specs.Shows.{IsState}
+use Rattle.standby_core.specs.Steps.{Keeps}
 use Rattle.turn_rules.specs.Round.{Seat, Round, actors, is_over}
 use Rattle.turn_rules.specs.Picks.{Rests, Makes, Actor, Coordinator, WorkerAt, SessionAt, actor_of, act_of}
-use Rattle.turn_rules.specs.Turns.{Acts, seats_after, is_abort_told, TakesTurn}
+use Rattle.turn_rules.specs.Turns.{Acts, said_by, seats_after, is_abort_told, TakesTurn}
 use Rattle.turn_rules.specs.Measure.{measure}
 use Rattle.turn_rules.specs.Standing.{RoundIs}
 use Rattle.turn_rules.proofs.View.{TurnIs, Rested, Crewed, Seated}
@@ -40,9 +43,17 @@ pub on_ok_three : {T E A B C D : Type 0} (r : Result T E) → (A → B → C →
 on_ok_three (Ok x) f a b d = f a b d
 on_ok_three (Err e) f a b d = tt
 
+crew_says : (moved : Bool) → None ≡ said_by (answer_of moved)
+crew_says true = refl
+crew_says false = refl
+
 -- an event that was taken
 pub made : (core : Core) (c : CoreState) (event : Event) (told : Option Reply) → HasTaken core c event told → HasActed core c (Makes event) told
 made core c event told h = record { move = Some (Takes event h.answer); next = h.next; acts = (h.answer, refl, h.says, h.steps); is = h.is; precise = h.precise }
+
+-- an event of the coordinator or of a worker that was taken; it says nothing
+pub crew_took : (core : Core) (c : CoreState) (event : CrewEvent) (moved : Bool) → Keeps core c (event_of event) (answer_of moved) → HasActed core c (Makes (event_of event)) None
+crew_took core c event moved k = record { move = Some (Takes (event_of event) (answer_of moved)); next = k.next; acts = (answer_of moved, refl, crew_says moved, k.steps); is = k.is; precise = k.precise }
 
 -- a turn leaves the log
 pub turn_log : (schedule : List ℕ) (r : Round) (move : Option Move) (next : Round) → RoundIs r → TakesTurn schedule r move next → next.core.log ≡ r.core.log

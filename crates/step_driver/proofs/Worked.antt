@@ -15,7 +15,6 @@ use Rattle.standby_core.specs.declared.link.Stage.TheVariants.{Unclaimed, Claime
 use Rattle.standby_core.specs.declared.link.Link.{Link as OwnLink}
 use Rattle.standby_core.specs.declared.session.Session.{Session as OwnSession}
 use Rattle.standby_core.specs.declared.session.Session.TheVariants.{Free, Populating, Scanning}
-use Rattle.standby_core.specs.Each.{EachAt}
 use Rattle.standby_core.specs.Links.{quiesce_shown, stage_with, ShowsLink}
 use Rattle.standby_core.specs.Parts.{ShowsWorker, ShowsSession}
 use Rattle.standby_core.specs.Shows.{Shows}
@@ -24,7 +23,7 @@ use Rattle.turn_rules.specs.Measure.{link_cost, links_cost, worker_cost, workers
 use Rattle.turn_rules.specs.Measure as rule
 use Rattle.step_driver.specs.declared.seat.Seat.{Seat as OwnSeat}
 use Rattle.step_driver.specs.declared.seats.Seats.{Seats}
-use Rattle.step_driver.specs.Seating.{request_shown, seat_shown, seats_shown}
+use Rattle.step_driver.specs.Seating.{request_shown, seat_shown}
 use Rattle.step_driver.specs.Work.{stage_work, links_work, worker_work, workers_work, calm_work, core_work, acts_done, seat_work, seats_work, work_left}
 use Rattle.step_driver.specs.Rounds.{ShowsRound}
 

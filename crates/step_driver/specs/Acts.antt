@@ -1,5 +1,5 @@
 -- What the acts and the actors of the driver are in the turn rule, and what an act makes of a core.
-use Rattle.std.specs.Prelude.{◌≡◌, ℕ, ◌<◌, length, Option, Some, None}
+use Rattle.std.specs.Prelude.{◌≡◌, ◌<◌, length, Option, Some, None}
 use Rattle.adg_base.specs.declared.answer.Reply.{Reply}
 use Rattle.core_rules.specs.declared.event.Event.{Event}
 use Rattle.core_rules.specs.declared.event.CoreAnswer.{CoreAnswer}
@@ -10,6 +10,8 @@ use Rattle.core_rules.specs.Runs.{Move}
 use Rattle.turn_rules.specs.Picks as rule
 use Rattle.turn_rules.specs.Turns.{said_by, Acts}
 use Rattle.standby_core.specs.declared.standby.Core.{Core}
+use Rattle.standby_core.specs.declared.crew.CrewEvent.{CrewEvent}
+use Rattle.standby_core.specs.Crew.{event_of}
 use Rattle.standby_core.specs.Shows.{IsState}
 use Rattle.step_driver.specs.declared.act.Act.{Act}
 use Rattle.step_driver.specs.declared.act.Act.TheVariants as own
@@ -23,9 +25,9 @@ act_shown (own.Tell reply) = rule.Replies reply
 act_shown (own.MakeAndTell event reply) = rule.MakesAndReplies event reply
 
 -- the coordinator and the workers make an event or rest
-abbrev pub crew_shown : Option Event → rule.Act
+abbrev pub crew_shown : Option CrewEvent → rule.Act
 crew_shown None = rule.Rests
-crew_shown (Some event) = rule.Makes event
+crew_shown (Some event) = rule.Makes (event_of event)
 
 -- the numbers of a worker and of a place leave room for one more
 abbrev pub IsSmall : Actor → Type 0

@@ -1,5 +1,5 @@
 -- What a delivery needs of a core, and what the driver makes of it.
-use Rattle.std.specs.Prelude.{◌≡◌, ℕ, ◌<◌, ◌^◌, List, [], ◌∷◌, ◌++◌, length, Option, ◌⊎◌}
+use Rattle.std.specs.Prelude.{◌≡◌, ◌<◌, ◌^◌, List, [], ◌∷◌, ◌++◌, length, Option, ◌⊎◌}
 use Rattle.std.specs.List.{AllByRecursion}
 use Rattle.adg_base.specs.declared.command.CommandText.{CommandText}
 use Rattle.adg_base.specs.declared.answer.Lines.{Lines}

@@ -24,23 +24,23 @@ use std::alloc::Global;
 pub fn run_delivery(
     alloc: Global,
     core: &mut Core,
-    delivery: &CheckedDelivery,
+    delivery: CheckedDelivery,
     dictionary: &Dictionary,
 ) -> Result<Lines, Memory>
-    requires ready { HasReady core.old delivery.now dictionary.now }
-    requires short { AllByRecursion IsShort delivery.now.commands }
-    ensures ok { IfOk result (λ lines. (c : CoreState) → CanDeliver core.old delivery.now dictionary.now c → HasDelivered core.new c delivery.now lines) }
-    ensures err { OnErr result ((c : CoreState) → CanDeliver core.old delivery.now dictionary.now c → HasReached core.new c delivery.now) }
+    requires ready { HasReady core.old delivery dictionary.now }
+    requires short { AllByRecursion IsShort delivery.commands }
+    ensures ok { IfOk result (λ lines. (c : CoreState) → CanDeliver core.old delivery dictionary.now c → HasDelivered core.new c delivery lines) }
+    ensures err { OnErr result ((c : CoreState) → CanDeliver core.old delivery dictionary.now c → HasReached core.new c delivery) }
 {
-    let mut seats = Seats::open(alloc, core.sessions(), delivery.commands.as_slice())?;
-    core.receive(delivery)?;
-    play_round(
-        alloc,
-        core,
-        &mut seats,
-        delivery.schedule.as_slice(),
-        dictionary,
-    )?;
+    let CheckedDelivery {
+        entries,
+        frontier,
+        commands,
+        schedule,
+    } = delivery;
+    let mut seats = Seats::open(alloc, core.sessions(), commands.as_slice())?;
+    core.receive(entries, frontier)?;
+    play_round(alloc, core, &mut seats, schedule.as_slice(), dictionary)?;
     Ok(Lines {
         list: lines_of(alloc, seats.list)?,
         end: core.query_scn(),

@@ -20,6 +20,7 @@ use adg_base::memory::Memory;
 use core_rules::event::{CoreAnswer, Event};
 use dictionary::Dictionary;
 use standby_core::Core;
+use standby_core::crew::CrewEvent;
 use std::alloc::Global;
 
 /// The core takes an event. What it says is to be told to the session whose turn it is.
@@ -97,29 +98,27 @@ fn take_up(seats: &mut Seats, actor: Actor, told: Option<Reply>) -> Result<(), M
     }
 }
 
-/// An actor takes the event that it has picked, if any.
+/// The coordinator or a worker takes the event that it has picked, if any. It tells nobody anything.
 #[inline(always)]
 fn take_crew_turn(
     core: &mut Core,
-    seats: &mut Seats,
+    seats: &Seats,
     number: usize,
-    actor: Actor,
-    event: Option<Event>,
+    event: Option<CrewEvent>,
     dictionary: &Dictionary,
 ) -> Result<(), Memory>
-    requires round { GoesOn dictionary.now core.old seats.old }
-    requires actor { IsActor dictionary.now core.old seats.old number }
-    requires named { IsNamed dictionary.now core.old seats.old number (actor_shown actor) }
-    requires picked { IsPicked dictionary.now core.old seats.old number (crew_shown event) }
-    ensures turns { OnOk result ((schedule : List ℕ) (r : Round) → ShowsRound dictionary.now core.old seats.old r → IsTurnOf schedule r number → HasTurned dictionary.now core.new seats.new schedule r) }
-    ensures acts { OnOk result (RestsOrActs dictionary.now core.old seats.old core.new seats.new number) }
-    ensures err { OnErr result ((r : Round) → ShowsRound dictionary.now core.old seats.old r → HasStopped core.new r.core) }
+    requires round { GoesOn dictionary.now core.old seats.now }
+    requires actor { IsActor dictionary.now core.old seats.now number }
+    requires picked { IsPicked dictionary.now core.old seats.now number (crew_shown event) }
+    ensures turns { OnOk result ((schedule : List ℕ) (r : Round) → ShowsRound dictionary.now core.old seats.now r → IsTurnOf schedule r number → HasTurned dictionary.now core.new seats.now schedule r) }
+    ensures acts { OnOk result (RestsOrActs dictionary.now core.old seats.now core.new seats.now number) }
+    ensures err { OnErr result ((r : Round) → ShowsRound dictionary.now core.old seats.now r → HasStopped core.new r.core) }
 {
     let Some(event) = event else {
         return Ok(());
     };
-    let told = take_event(core, event, dictionary)?;
-    take_up(seats, actor, told)
+    core.step_crew(event, dictionary)?;
+    Ok(())
 }
 
 /// The session at a place does what it has picked. It stands by itself, so that the turns of the others
@@ -163,19 +162,18 @@ pub(crate) fn take_turn(
     ensures acts { OnOk result (RestsOrActs dictionary.now core.old seats.old core.new seats.new number) }
     ensures err { OnErr result ((r : Round) → ShowsRound dictionary.now core.old seats.old r → HasStopped core.new r.core) }
 {
-    let actor = Actor::numbered(core.workers(), number);
-    match actor {
+    match Actor::numbered(core.workers(), number) {
         Actor::Coordinator => {
             let event = coordinator(core);
-            take_crew_turn(core, seats, number, actor, event, dictionary)
+            take_crew_turn(core, seats, number, event, dictionary)
         }
         Actor::Worker(place) => {
             let event = worker(core, place);
-            take_crew_turn(core, seats, number, actor, event, dictionary)
+            take_crew_turn(core, seats, number, event, dictionary)
         }
         Actor::Session(place) => {
             if waits(core, seats, place) {
-                take_crew_turn(core, seats, number, actor, None, dictionary)
+                take_crew_turn(core, seats, number, None, dictionary)
             } else {
                 take_session_turn(alloc, core, seats, number, place, dictionary)
             }

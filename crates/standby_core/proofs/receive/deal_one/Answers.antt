@@ -2,7 +2,6 @@ use Rattle.std.proofs.Common.{◌≡◌, ◌<◌, ◌%◌, ◌∷◌, [], ◌++�
 use Rattle.std.specs.Prelude.{slice_set}
 use Rattle.std.proofs.lemmas.Option.{slice_get-get_or}
 use Rattle.adg_base.specs.Shard.{shard_of_vector}
-use Rattle.adg_base.specs.declared.log.LogEntry.{LogEntry}
 use Rattle.core_rules.specs.State.{At}
 use Rattle.standby_core.specs.Received.{AreDealt}
 use Rattle.standby_core.proofs.Deals.{dealt_one}
@@ -11,7 +10,7 @@ use Rattle.standby_core.proofs.receive.deal_one.Goals as goal
 pub returns-in_ok-push-clause-ok : goal.returns-in_ok-push-clause-ok
 returns-in_ok-push-clause-ok c =
     let ws = c.args.workers.now in
-    let e = c.args.entry.now in
+    let e = c.args.entry in
     let i = c.from-worker.result in
     let number = c.in-Some.number in
     let x = slice_index_or ws i c.index-workers-worker.result in
@@ -22,7 +21,7 @@ returns-in_ok-push-clause-ok c =
     let at : At ws i x = slice_get-get_or ws i c.index-workers-worker.result within in
     let place : i ≡ number % length ws = c.from-worker.ensures ∙ c.worker_of.ensures.value ∙ ap (λ n. number % n) (sym c.requires.count) in
     let own : shard_of_vector e.vector ≡ Some number = search rules in
-    let share : c.push.new.self ≡ x.share ++ e ∷ [] = c.in_ok-push.ensures.ok ∙ ap (λ (y : LogEntry). x.share ++ y ∷ []) c.in_ok-copy.ensures in
+    let share : c.push.new.self ≡ x.share ++ e ∷ [] = c.in_ok-push.ensures.ok in
     subst (λ s. AreDealt (e ∷ []) ws (slice_set ws i (record x { share = s }))) (sym share)
     (subst (λ k. AreDealt (e ∷ []) ws (slice_set ws k (record x { share = x.share ++ e ∷ [] }))) (sym place)
     (dealt_one ws e number x own (subst (λ k. At ws k x) place at)))

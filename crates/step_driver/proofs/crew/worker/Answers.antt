@@ -5,13 +5,14 @@ use Rattle.core_rules.specs.declared.event.Event.TheVariants as event
 use Rattle.core_rules.specs.State.{is_flushing}
 use Rattle.core_rules.proofs.Lists.{at_exists}
 use Rattle.turn_rules.specs.Picks.{Makes, has_unclaimed, share_act}
+use Rattle.standby_core.specs.Crew.{event_of}
 use Rattle.step_driver.proofs.Crewed.{with_link, without_link, claims_next, claims_none}
 use Rattle.step_driver.proofs.crew.worker.Goals.{then-is_flushing+else-has_unclaimed, else-is_flushing}
 use Rattle.step_driver.proofs.crew.worker.Goals as goal
 
 pub returns-in-Some : goal.returns-in-Some
 returns-in-Some c c' h within =
-    with_link c.args.core.now c' h c.workers.result (c.args.worker + 1) c.in-Some.cursor c.next_of_link.result
+    with_link c.args.core.now c' h c.workers.result (c.args.worker + 1) c.in-Some.cursor (event_of c.next_of_link.result)
     (cond (is_flushing c'.quiesce && has_unclaimed c'.links) (Makes (event.Claim (c.args.worker + 1))) (share_act c' c.args.worker (slice_get c'.workers c.args.worker)))
     (c.workers.ensures c' h) (c.in-Some.ensures.some c' h) c.next_of_link.ensures
 

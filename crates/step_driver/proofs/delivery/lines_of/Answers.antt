@@ -3,7 +3,7 @@ use Rattle.std.specs.Vec.Iter.{into_iter_items}
 use Rattle.std.proofs.lemmas.List.{length_push, length-map}
 use Rattle.adg_base.specs.declared.answer.Reply.{Reply}
 use Rattle.adg_base.specs.declared.answer.Line.{Line}
-use Rattle.turn_rules.specs.Telling.{session_lines, seats_lines, all_replies}
+use Rattle.turn_rules.specs.Telling.{session_lines, seats_lines}
 use Rattle.step_driver.specs.declared.seat.Seat.{Seat}
 use Rattle.step_driver.specs.Seating.{seat_shown}
 use Rattle.step_driver.proofs.Seated.{seats_lines_more, shown_more}

@@ -8,7 +8,7 @@ use Rattle.step_driver.proofs.delivery.run_delivery.Goals as goal
 pub play_round-requires : goal.play_round-requires
 play_round-requires c =
     let known = c.args.dictionary.now in
-    let d = c.args.delivery.now in
+    let d = c.args.delivery in
     let row = c.in_ok-seats.seats in
     let state = c.requires.ready.state in
     let can = c.requires.ready.can in
@@ -19,7 +19,7 @@ play_round-requires c =
 pub returns-in_err-play_round-clause-err : goal.returns-in_err-play_round-clause-err
 returns-in_err-play_round-clause-err c = at_err c.from_residual-in_err-play_round.result (λ c' can.
     let known = c.args.dictionary.now in
-    let d = c.args.delivery.now in
+    let d = c.args.delivery in
     let row = c.in_ok-seats.seats in
     let b = begun known c.args.core.now c.receive.new.self row c' d c.sessions.result c.as_slice.result.now can (c.in_ok-receive.ensures.ok c' can.is can.continues)
     (c.sessions.ensures c' can.is) c.as_slice.ensures c.in_ok-seats.ensures.seats c.in_ok-seats.ensures.counted c.in_ok-seats.ensures.calm in
@@ -28,7 +28,7 @@ returns-in_err-play_round-clause-err c = at_err c.from_residual-in_err-play_roun
 pub returns-in_err-lines_of-clause-err : goal.returns-in_err-lines_of-clause-err
 returns-in_err-lines_of-clause-err c = at_err c.from_residual-in_err-lines_of.result (λ c' can.
     let known = c.args.dictionary.now in
-    let d = c.args.delivery.now in
+    let d = c.args.delivery in
     let row = c.in_ok-seats.seats in
     let b = begun known c.args.core.now c.receive.new.self row c' d c.sessions.result c.as_slice.result.now can (c.in_ok-receive.ensures.ok c' can.is can.continues)
     (c.sessions.ensures c' can.is) c.as_slice.ensures c.in_ok-seats.ensures.seats c.in_ok-seats.ensures.counted c.in_ok-seats.ensures.calm in
@@ -38,7 +38,7 @@ returns-in_err-lines_of-clause-err c = at_err c.from_residual-in_err-lines_of.re
 pub returns-clause-ok : goal.returns-clause-ok
 returns-clause-ok c c' can =
     let known = c.args.dictionary.now in
-    let d = c.args.delivery.now in
+    let d = c.args.delivery in
     let row = c.in_ok-seats.seats in
     let b = begun known c.args.core.now c.receive.new.self row c' d c.sessions.result c.as_slice.result.now can (c.in_ok-receive.ensures.ok c' can.is can.continues)
     (c.sessions.ensures c' can.is) c.as_slice.ensures c.in_ok-seats.ensures.seats c.in_ok-seats.ensures.counted c.in_ok-seats.ensures.calm in

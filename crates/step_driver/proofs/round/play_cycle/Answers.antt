@@ -1,4 +1,4 @@
-use Rattle.std.proofs.Common.{◌≡◌, ℕ, ◌+◌, ◌*◌, ◌^◌, ◌<◌, ◌≤◌, List, [], length, inl, inr, refl, sym, ap, ◌∙◌, subst, arith}
+use Rattle.std.proofs.Common.{◌≡◌, ◌+◌, ◌*◌, ◌^◌, ◌<◌, ◌≤◌, [], length, inl, inr, refl, sym, ap, ◌∙◌, subst, arith}
 use Rattle.standby_core.proofs.Exits.{at_err}
 use Rattle.turn_rules.specs.Round.{Round, actors}
 use Rattle.step_driver.specs.Rounds.{HasPlayedOn, RestOrAct, IsTurnOf}

@@ -1,4 +1,4 @@
-use Rattle.std.proofs.Common.{◌≡◌, ℕ, ◌+◌, ◌*◌, List, [], length, inl, inr, refl, sym, ap, ◌∙◌, arith}
+use Rattle.std.proofs.Common.{◌≡◌, ◌+◌, ◌*◌, [], inr, refl, sym, arith}
 use Rattle.standby_core.proofs.Exits.{at_err}
 use Rattle.turn_rules.specs.Round.{Round, actors}
 use Rattle.step_driver.proofs.Turned.{shows_again}

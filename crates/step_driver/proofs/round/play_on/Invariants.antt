@@ -1,4 +1,4 @@
-use Rattle.std.proofs.Common.{◌≡◌, ℕ, List}
+use Rattle.std.proofs.Common.{ℕ, List}
 use Rattle.turn_rules.specs.Round.{Round}
 use Rattle.step_driver.specs.Work.{work_left}
 use Rattle.step_driver.specs.Rounds.{ShowsRound, IsBehind, HasPlayedBehind}

@@ -1,4 +1,4 @@
-use Rattle.std.proofs.Common.{◌≡◌, ◌≤◌, map, take}
+use Rattle.std.proofs.Common.{◌≡◌, ◌≤◌, take}
 use Rattle.std.specs.Prelude.{count_by}
 use Rattle.step_driver.specs.Seating.{seat_shown, is_waiting}
 use Rattle.step_driver.proofs.seats.count_waiting.Given as goal

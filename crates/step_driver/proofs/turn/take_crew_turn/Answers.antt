@@ -1,12 +1,12 @@
 use Rattle.std.proofs.Common.{◌≡◌, ◌<◌, false, [], ◌∷◌, length, None, inl, inr, refl, sym, ap, ◌∙◌, subst}
-use Rattle.standby_core.proofs.Exits.{at_err}
 use Rattle.turn_rules.specs.Round.{Round, actors, is_over}
 use Rattle.turn_rules.specs.Picks.{Rests, Makes, actor_of, act_of}
 use Rattle.turn_rules.specs.Turns.{seats_after}
 use Rattle.step_driver.specs.Acts.{crew_shown, HasActed}
+use Rattle.standby_core.specs.Crew.{event_of}
 use Rattle.step_driver.specs.Seating.{seats_shown}
 use Rattle.step_driver.specs.Rounds.{ShowsRound}
-use Rattle.step_driver.proofs.Turned.{none_told, or_none, on_ok_three, made, turned, rests, any_turn, shows_again, stopped_after, less_left}
+use Rattle.step_driver.proofs.Turned.{none_told, or_none, crew_took, turned, rests, any_turn, shows_again, less_left}
 use Rattle.step_driver.proofs.Played.{same_over}
 use Rattle.step_driver.proofs.turn.take_crew_turn.Goals as goal
 
@@ -32,29 +32,24 @@ pub returns : goal.returns
 returns c =
     let known = c.args.dictionary.now in
     let core = c.args.core.now in
-    let was = c.args.seats.now in
-    let new = c.take_event.new.core in
-    let seats = c.take_up.new.seats in
+    let seats = c.args.seats.now in
+    let new = c.step_crew.new.self in
     let number = c.args.number in
-    let told = c.in_ok-told.told in
+    let event = event_of c.in-Some.event in
     let w = c.requires.round.round in
-    let named = c.requires.named in
-    let picked : (r : Round) → ShowsRound known core was r → Makes c.in-Some.event ≡ act_of r (actor_of (length r.core.workers) number) =
-    λ r s. sym (ap crew_shown c.in-Some.is) ∙ c.requires.picked r s in
-    let acted : (r : Round) → ShowsRound known core was r → HasActed new r.core (act_of r (actor_of (length r.core.workers) number)) told =
-    λ r s. subst (λ a. HasActed new r.core a told) (picked r s) (made new r.core c.in-Some.event told (c.in_ok-told.ensures.ok r.core s.core s.known)) in
-    let goes_on : (r : Round) → ShowsRound known core was r → is_over r ≡ false = λ r s. same_over known core was r w s c.requires.round.shows ∙ c.requires.round.goes_on in
+    let picked : (r : Round) → ShowsRound known core seats r → Makes event ≡ act_of r (actor_of (length r.core.workers) number) = λ r s. sym (ap crew_shown c.in-Some.is) ∙ c.requires.picked r s in
+    let acted : (r : Round) → ShowsRound known core seats r → HasActed new r.core (act_of r (actor_of (length r.core.workers) number)) None =
+    λ r s. subst (λ a. HasActed new r.core a None) (picked r s) (crew_took new r.core c.in-Some.event c.in_ok-step_crew.field-0 (c.in_ok-step_crew.ensures.steps r.core s.core s.known)) in
+    let goes_on : (r : Round) → ShowsRound known core seats r → is_over r ≡ false = λ r s. same_over known core seats r w s c.requires.round.shows ∙ c.requires.round.goes_on in
+    let untold : (r : Round) → seats_shown seats ≡ seats_after (actor_of (length r.core.workers) number) None (seats_shown seats) = λ r. none_told (actor_of (length r.core.workers) number) (seats_shown seats) in
     record {
-      turns = on_ok_three c.take_up.result (λ row counted aborted schedule r s turn.
-          turned known core new was seats schedule r number told s (goes_on r s) turn (acted r s) (row ∙ ap (λ a. seats_after a told (seats_shown was)) (named r s)) counted aborted)
-          c.take_up.ensures.seats c.take_up.ensures.counted c.take_up.ensures.aborted;
-      acts = on_ok_three c.take_up.result (λ row counted aborted.
+      turns = λ schedule r s turn. turned known core new seats seats schedule r number None s (goes_on r s) turn (acted r s) (untold r) s.counted (or_none seats.aborted);
+      acts =
           let s = c.requires.round.shows in
           let within : number < actors w = (c.requires.actor w s).within in
           let q : Round = record w { turns = 0 } in
-          let t = shows_again known core was w 0 s in
-          inr (less_left known core new was seats w number s within (λ e. let k : Makes c.in-Some.event ≡ Rests = picked w s ∙ e in absurd cc)
-          (turned known core new was seats (number ∷ []) q number told t (goes_on q t) (any_turn w number within) (acted q t) (row ∙ ap (λ a. seats_after a told (seats_shown was)) (named q t)) counted aborted)))
-          c.take_up.ensures.seats c.take_up.ensures.counted c.take_up.ensures.aborted;
-      err = at_err c.take_up.result (λ r s. stopped_after new r number told s.stands (goes_on r s) (c.requires.actor r s).within (acted r s));
+          let t = shows_again known core seats w 0 s in
+          inr (less_left known core new seats seats w number s within (λ e. let k : Makes event ≡ Rests = picked w s ∙ e in absurd cc)
+          (turned known core new seats seats (number ∷ []) q number None t (goes_on q t) (any_turn w number within) (acted q t) (untold q) t.counted (or_none seats.aborted)));
+      err = tt;
     }
