@@ -22,14 +22,15 @@ use Rattle.turn_rules.proofs.Driving.{plays_more, number_inside, number_behind}
 use Rattle.step_driver.specs.declared.seats.Seats.{Seats}
 use Rattle.step_driver.specs.Seating.{seats_shown, is_waiting}
 use Rattle.step_driver.specs.Work.{work_left}
-use Rattle.step_driver.specs.Rounds.{ShowsRound, IsTurnOf, HasTurned, RestsAt, RestsOrActs, RestOrAct, HasPlayed, HasPlayedOn, HasPlayedTo, HasPlayedBehind, HasStopped}
+use Rattle.step_driver.specs.Rounds.{ShowsRound, IsTurnOf, HasTurned, RestsAt, RestsOrActs, RestOrAct, HasPlayed, HasPlayedOn, HasPlayedTo, IsBehind, HasPlayedBehind, HasStopped}
+use Rattle.step_driver.specs.Alone.{HasCycled}
 
 -- no turns
 pub played_none : (known : Known) (core : Core) (seats : Seats) (schedule : List ℕ) (r : Round) → ShowsRound known core seats r → HasPlayedOn known core seats schedule r r.turns
 played_none known core seats schedule r s = record { played = record { turns = []; last = r; plays = refl; shows = s }; count = refl }
 
 -- a turn more
-pub played_more : (known : Known) (old core : Core) (was seats : Seats) (schedule : List ℕ) (r : Round) (turns : ℕ) → (p : HasPlayedOn known old was schedule r turns)
+abbrev pub played_more : (known : Known) (old core : Core) (was seats : Seats) (schedule : List ℕ) (r : Round) (turns : ℕ) → (p : HasPlayedOn known old was schedule r turns)
     → HasTurned known core seats schedule p.played.last → HasPlayedOn known core seats schedule r (turns + 1)
 played_more known old core was seats schedule r turns p t = record {
   played = record {
@@ -181,7 +182,7 @@ cycle_more k a =
     omega arith
 
 pub cycled : (known : Known) (old core : Core) (was seats : Seats) (schedule : List ℕ) (r : Round) → RoundIs r → (p : HasPlayedBehind known old was schedule r) → is_over p.played.last ≡ false
-    → ((k : ℕ) → p.played.last.turns ≡ length schedule + k * actors p.played.last → HasPlayedTo known core seats schedule p.played.last (length schedule + (k + 1) * actors p.played.last))
+    → ((k : ℕ) → p.played.last.turns ≡ length schedule + k * actors p.played.last → (m : ℕ) × HasPlayedTo known core seats schedule p.played.last (length schedule + (m + 1) * actors p.played.last))
     → HasPlayedBehind known core seats schedule r
 cycled known old core was seats schedule r is p goes_on cycle = by_place p.behind
   where
@@ -198,4 +199,25 @@ cycled known old core was seats schedule r is p goes_on cycle = by_place p.behin
 
     by_place : (is_over last ≡ true) ⊎ ((k : ℕ) × (last.turns ≡ length schedule + k * actors last)) → HasPlayedBehind known core seats schedule r
     by_place (inl over) = absurd (true≢false (sym over ∙ goes_on))
-    by_place (inr q) = let t = cycle q.0 q.1 in by_end q.0 t t.end
+    by_place (inr q) = let t = cycle q.0 q.1 in by_end t.0 t.1 t.1.end
+
+-- a round that goes on stands at the end of a cycle
+pub cycle_of : (schedule : List ℕ) (r : Round) → IsBehind schedule r → is_over r ≡ false → (k : ℕ) × (r.turns ≡ length schedule + k * actors r)
+cycle_of schedule r (inl over) goes_on = absurd (true≢false (sym over ∙ goes_on))
+cycle_of schedule r (inr q) goes_on = q
+
+-- whole cycles, and one more
+pub cycled_twice : (known : Known) (old mid core : Core) (was between seats : Seats) (schedule : List ℕ) (r : Round) (k : ℕ) → RoundIs r → (h : HasCycled known mid between schedule r k)
+    → ((j : ℕ) → h.on.played.last.turns ≡ length schedule + j * actors h.on.played.last → HasPlayedTo known core seats schedule h.on.played.last (length schedule + (j + 1) * actors h.on.played.last))
+    → (m : ℕ) × HasPlayedTo known core seats schedule r (length schedule + (m + 1) * actors r)
+cycled_twice known old mid core was between seats schedule r k is h cycle =
+    let p = h.on.played in
+    let count : actors p.last ≡ actors r = actors_stay schedule r p.turns p.last is p.plays in
+    let t = cycle (k + h.cycles) (h.on.count ∙ ap (λ a. length schedule + (k + h.cycles) * a) (sym count)) in (
+      k + h.cycles,
+      record { played = played_append known mid core between seats schedule r p t.played; end = by_end t.played.last t.end (ap (λ a. length schedule + (k + h.cycles + 1) * a) count) },
+    )
+  where
+    by_end : (last : Round) {there here : ℕ} → (is_over last ≡ true) ⊎ (last.turns ≡ there) → there ≡ here → (is_over last ≡ true) ⊎ (last.turns ≡ here)
+    by_end last (inl over) e = inl over
+    by_end last (inr turns) e = inr (turns ∙ e)

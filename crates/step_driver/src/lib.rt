@@ -3,6 +3,7 @@
 #![tactic(auto)]
 
 pub mod act;
+mod alone;
 mod crew;
 pub mod delivery;
 pub mod request;

@@ -5,6 +5,7 @@ ghost use Rattle.step_driver.specs.declared.seats.Seats.{Seats as Row};
 ghost use Rattle.step_driver.specs.Work.{work_left};
 ghost use Rattle.step_driver.specs.Rounds.{ShowsRound, HasRound, AreActors, GoesOn, HasPlayedTo, IsBehind, HasEnded, HasStopped};
 
+use crate::alone::play_alone;
 use crate::seats::Seats;
 use crate::turn::take_turn;
 use adg_base::memory::Memory;
@@ -77,6 +78,7 @@ fn play_on(
     ensures err { OnErr result ((r : Round) → ShowsRound dictionary.now core.old seats.old r → HasStopped core.new r.core) }
 {
     while !is_over(core, seats) {
+        play_alone(core, seats, dictionary)?;
         play_cycle(alloc, core, seats, dictionary)?;
     }
     Ok(())

@@ -69,7 +69,7 @@ fn pick(alloc: Global, core: &Core, seats: &Seats, place: u8) -> Result<Act, Mem
 
 /// Whether the session at a place rests and a look tells so: no request is at hand, or a SYNC that waits.
 /// Most turns of sessions are such.
-fn waits(core: &Core, seats: &Seats, place: u8) -> bool
+pub(crate) fn waits(core: &Core, seats: &Seats, place: u8) -> bool
     ensures { result ≡ true → (known : Known) (r : Round) → ShowsRound known core.now seats.now r → Rests ≡ act_of r (SessionAt place) }
 {
     match seats.at_hand(place) {
@@ -100,7 +100,7 @@ fn take_up(seats: &mut Seats, actor: Actor, told: Option<Reply>) -> Result<(), M
 
 /// The coordinator or a worker takes the event that it has picked, if any. It tells nobody anything.
 #[inline(always)]
-fn take_crew_turn(
+pub(crate) fn take_crew_turn(
     core: &mut Core,
     seats: &Seats,
     number: usize,
