@@ -11,12 +11,15 @@ use std::sync::Arc;
 /// The most values of a row that lie beside its count.
 const FEW: usize = 4;
 
+/// The values of a row that is put together: up to four lie in the list itself.
+pub type Values = SmallVec<Value, FEW>;
+
 /// A row: one value for each of its columns. Contracts see the list of its values. The values are
 /// held once, however many copies there are: a copy costs a count, whatever the row holds, and can
 /// go to another thread. Most rows have few values, which lie in one piece of memory with the count.
 #[derive(Debug, Drop)]
 pub struct Row {
-    values: Arc<SmallVec<Value, FEW>>,
+    values: Arc<Values>,
 }
 
 /// A list of rows.
@@ -32,7 +35,7 @@ impl Model for Row {
 }
 
 /// The same values, four and fewer moved out of the memory of the `Vec`.
-fn few_inline(values: Vec<Value>) -> SmallVec<Value, FEW>
+fn few_inline(values: Vec<Value>) -> Values
     ensures items { result.items ≡ values.items }
     ensures few { length values.items ≤ 4 → result.capacity ≡ 4 }
 {
@@ -49,7 +52,14 @@ impl Row {
     pub fn from_vec(alloc: Global, values: Vec<Value>) -> Result<Row, Memory>
         ensures { IfOk result (λ row. row ≡ values.items) }
     {
-        let values = Arc::new(alloc, few_inline(values))?;
+        Row::from_values(alloc, few_inline(values))
+    }
+
+    /// The row of these values, which move into it with no memory of their own where they are few.
+    pub fn from_values(alloc: Global, values: Values) -> Result<Row, Memory>
+        ensures { IfOk result (λ row. row ≡ values.items) }
+    {
+        let values = Arc::new(alloc, values)?;
         Ok(Row { values })
     }
 
