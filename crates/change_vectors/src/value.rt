@@ -5,8 +5,10 @@ ghost use Rattle.change_vectors.specs.Reading.{Finds, Gives, int_at, text_at, va
 
 use crate::field::{kind_of, u8_at, u64_at, width_of};
 use crate::unread::{Unread, Unspelled};
+use adg_base::row::Values;
 use adg_base::text::{Text, TextRefused};
 use adg_base::value::{ColKind, Value};
+use smallvec::SmallVec;
 use std::alloc::Global;
 
 #[tactic(auto, unfolding(crate::specs::Reading::int_at))]
@@ -47,10 +49,10 @@ fn value_of(alloc: Global, bytes: &[u8]) -> Result<(Value, &[u8]), Unread>
     }
 }
 
-fn values_of(alloc: Global, count: u8, bytes: &[u8]) -> Result<(Vec<Value>, &[u8]), Unread>
+fn values_of(alloc: Global, count: u8, bytes: &[u8]) -> Result<(Values, &[u8]), Unread>
     ensures { Gives (λ x. (x.0.items, x.1.now)) result (many_at value_at count bytes.now) }
 {
-    let mut values = Vec::with_capacity(alloc, count as usize)?;
+    let mut values = SmallVec::with_capacity(alloc, count as usize)?;
     let mut rest = bytes;
     for _ in 0..count {
         let (value, after) = value_of(alloc, rest)?;
@@ -75,7 +77,7 @@ fn kinds_of(alloc: Global, count: u8, bytes: &[u8]) -> Result<(Vec<ColKind>, &[u
 
 /// The values of a row, behind their number.
 #[tactic(auto, unfolding(crate::specs::Reading::row_at))]
-pub fn row_of(alloc: Global, bytes: &[u8]) -> Result<(Vec<Value>, &[u8]), Unread>
+pub fn row_of(alloc: Global, bytes: &[u8]) -> Result<(Values, &[u8]), Unread>
     ensures { Gives (λ x. (x.0.items, x.1.now)) result (row_at bytes.now) }
 {
     let (width, rest) = width_of(bytes)?;

@@ -31,7 +31,7 @@ fn put_of(alloc: Global, bytes: &[u8]) -> Result<(Vector, &[u8]), Unread>
     match change_of(bytes) {
         Ok((change, rest)) => {
             let (values, rest) = row_of(alloc, rest)?;
-            let Ok(row) = Row::from_vec(alloc, values) else {
+            let Ok(row) = Row::from_values(alloc, values) else {
                 return Err(Unread::Memory);
             };
             let put = Vector::Put {

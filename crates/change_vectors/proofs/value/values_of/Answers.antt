@@ -10,7 +10,7 @@ returns-in_err-value c =
 
 pub loop-preserved : goal.loop-preserved
 loop-preserved c =
-    rw c.in_ok-push.ensures.items (goes_on value_at c.loop.values.items c.args.count c.loop.counter c.loop.rest.now c.in_ok-value.value c.in_ok-value.after.now (many_at value_at c.args.count c.args.bytes.now) c.loop-test.true c.in_ok-value.ensures c.loop.invariant)
+    rw c.in_ok-push.ensures.ok (goes_on value_at c.loop.values.items c.args.count c.loop.counter c.loop.rest.now c.in_ok-value.value c.in_ok-value.after.now (many_at value_at c.args.count c.args.bytes.now) c.loop-test.true c.in_ok-value.ensures c.loop.invariant)
 
 pub returns : goal.returns
 returns c = is_done value_at c.loop.values.items c.args.count c.loop.counter c.loop.rest.now (many_at value_at c.args.count c.args.bytes.now) c.loop-test.false c.loop.invariant
