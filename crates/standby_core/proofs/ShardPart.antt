@@ -1,7 +1,9 @@
 -- The addresses of a unit shard, in a list in the order of unit shards.
-use Rattle.std.proofs.Common.{◌≡◌, ℕ, ◌+◌, ◌-◌, ◌<◌, ◌≤◌, min, true, false, leb, ltb, List, length, take, drop, get_or, ◌⊎◌, inl, inr, ◌↔◌, sym, ap, ◌∙◌, arith, length-take, length-drop, get_or-take, get_or-drop}
+use Rattle.std.proofs.Common.{◌≡◌, ℕ, ◌+◌, ◌-◌, ◌<◌, ◌≤◌, min, true, false, leb, ltb, List, [], length, take, drop, get_or, ◌⊎◌, inl, inr, ◌↔◌, sym, ap, ◌∙◌, arith, length-take, length-drop, get_or-take, get_or-drop, Some}
 use Rattle.std.specs.List.{Contains}
 use Rattle.std.specs.List.Sorted.{IsNonDecreasingBy, IsPartitionPoint}
+use Rattle.std.specs.Prelude.{slice_get}
+use Rattle.std.proofs.lemmas.Option.{get_or_from_slice_get}
 use Rattle.std.proofs.lemmas.Bool.{ltb-true, ltb-false, leb-true, leb-false, le-leb, lt-leb, cases_lt}
 use Rattle.adg_base.specs.Address.{Place, place}
 use Rattle.standby_core.specs.Links.{shard_of_place}
@@ -77,3 +79,39 @@ ends_at_once shard from xs order low none = (below, above)
         let x : shard ≤ shard_of_place (get_or xs from a) = ltb-false (shard_of_place (get_or xs from a)) shard (low.1 from a (omega arith) (omega arith)) in
         let y : shard_of_place (get_or xs from a) ≤ shard_of_place (get_or xs k a) = order from k a l w in
         lt-leb (shard_of_place (get_or xs k a)) shard (beyond shard (shard_of_place (get_or xs from a)) (shard_of_place (get_or xs k a)) x y (none (omega arith) a))
+
+-- what the first and the last address of a list tell
+module _ (xs : List Place) (shard : ℕ) (first last : Place) (order : IsNonDecreasingBy shard_of_place xs) (head : Some first ≡ slice_get xs 0) (back : Some last ≡ slice_get xs (length xs - 1)) where
+  lowest : (k : ℕ) (a : Place) → k < length xs → get_or xs k a ≡ a → shard_of_place first ≤ shard_of_place a
+  lowest k a w e =
+      let f : get_or xs 0 a ≡ first = get_or_from_slice_get xs 0 first a (sym head) in
+      let l : shard_of_place (get_or xs 0 a) ≤ shard_of_place (get_or xs k a) = order 0 k a (omega arith) w in
+      let s : shard_of_place (get_or xs 0 a) ≡ shard_of_place first = ap shard_of_place f in
+      let t : shard_of_place (get_or xs k a) ≡ shard_of_place a = ap shard_of_place e in
+      omega arith
+
+  highest : (k : ℕ) (a : Place) → k < length xs → get_or xs k a ≡ a → shard_of_place a ≤ shard_of_place last
+  highest k a w e =
+      let f : get_or xs (length xs - 1) a ≡ last = get_or_from_slice_get xs (length xs - 1) last a (sym back) in
+      let l : shard_of_place (get_or xs k a) ≤ shard_of_place (get_or xs (length xs - 1) a) = order k (length xs - 1) a (omega arith) (omega arith) in
+      let s : shard_of_place (get_or xs (length xs - 1) a) ≡ shard_of_place last = ap shard_of_place f in
+      let t : shard_of_place (get_or xs k a) ≡ shard_of_place a = ap shard_of_place e in
+      omega arith
+
+  -- where the shard is below that of the first or above that of the last, no address is of it
+  pub none_between : (low high : ℕ) → low ≡ shard_of_place first → high ≡ shard_of_place last → (shard < low) ⊎ ((low ≤ shard) × (high < shard)) → (a : Place) → Contains [] a ↔ IsInShard xs shard a
+  none_between low high f l out a = (λ c. absurd (omega (arith, c.1)), λ h. absurd (none h out))
+    where
+      none : IsInShard xs shard a → (shard < low) ⊎ ((low ≤ shard) × (high < shard)) → ⊥
+      none h (inl b) = let x = lowest h.noted.0 a h.noted.1 h.noted.2 in omega (arith, b, x, f, h.of)
+      none h (inr b) = let x = highest h.noted.0 a h.noted.1 h.noted.2 in omega (arith, b.1, x, l, h.of)
+
+  -- where both are of the shard, all are
+  pub all_between : (low high : ℕ) → low ≡ shard_of_place first → high ≡ shard_of_place last → low ≤ shard → shard ≤ high → low ≡ high → (a : Place) → Contains xs a ↔ IsInShard xs shard a
+  all_between low high f l above below same a = (all, λ h. h.noted)
+    where
+      all : Contains xs a → IsInShard xs shard a
+      all c =
+          let x = lowest c.0 a c.1 c.2 in
+          let y = highest c.0 a c.1 c.2 in
+          record { noted = c; of = omega (arith, f, l, above, below, same, x, y) }

@@ -82,8 +82,28 @@ fn mark_list(addrs: &[Addr], units: &mut UnitShard)
     mark_each(of_shard(addrs, shard), units);
 }
 
-/// The addresses of a unit shard, where they are in the order of their shards.
+/// The addresses of a unit shard, where they are in the order of their shards. Most lists are of few
+/// shards, and then the first and the last address tell.
 fn of_shard(addrs: &[Addr], shard: u8) -> &[Addr]
+    requires { IsNonDecreasingBy shard_of_place addrs.now }
+    ensures { (a : Place) → Contains result.now a ↔ IsInShard addrs.now shard a }
+{
+    let (Some(first), Some(last)) = (addrs.first(), addrs.last()) else {
+        return addrs;
+    };
+    let lowest = shard_of_addr(*first);
+    let highest = shard_of_addr(*last);
+    if shard < lowest || highest < shard {
+        &[]
+    } else if lowest == highest {
+        addrs
+    } else {
+        search_shard(addrs, shard)
+    }
+}
+
+/// The same, by a search for where the shard starts and where it ends.
+fn search_shard(addrs: &[Addr], shard: u8) -> &[Addr]
     requires { IsNonDecreasingBy shard_of_place addrs.now }
     ensures { (a : Place) → Contains result.now a ↔ IsInShard addrs.now shard a }
 {
@@ -105,8 +125,8 @@ fn start_of(addrs: &[Addr], shard: u8) -> usize
     )
 }
 
-/// Where the addresses of a shard end that begin at a place. Most lists have none, and then the first
-/// behind the lower shards tells so.
+/// Where the addresses of a shard end that begin at a place. Where there is none, the first behind the
+/// lower shards tells so.
 fn end_of(addrs: &[Addr], from: usize, shard: u8) -> usize
     requires order { IsNonDecreasingBy shard_of_place addrs.now }
     requires within { from ≤ length addrs.now }

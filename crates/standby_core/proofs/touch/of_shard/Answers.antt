@@ -1,17 +1,13 @@
-use Rattle.std.proofs.Common.{◌≤◌, rules}
-use Rattle.standby_core.proofs.ShardPart.{part_order, part_has}
+use Rattle.standby_core.proofs.ShardPart.{none_between, all_between}
 use Rattle.standby_core.proofs.touch.of_shard.Goals as goal
 
-pub slice_bounds-result-count : goal.slice_bounds-result-count
-slice_bounds-result-count c =
-    part_order c.args.addrs.now c.args.shard c.start_of-from.result c.end_of-to.result c.start_of-from.ensures.within c.end_of-to.ensures.within c.start_of-from.ensures.start c.end_of-to.ensures.end
+pub returns-then-highest-shard : goal.returns-then-highest-shard
+returns-then-highest-shard c =
+    let ends = c.in-Some-Some in
+    none_between c.args.addrs.now c.args.shard ends.first.now ends.last.now c.requires ends.ensures.value ends.ensures'.value _ _ c.shard_of_addr-lowest.ensures.value c.shard_of_addr-highest.ensures.value c.if-highest-shard.either
 
-pub slice_bounds-result-start : goal.slice_bounds-result-start
-slice_bounds-result-start c =
-    let order : c.start_of-from.result ≤ c.end_of-to.result =
-    part_order c.args.addrs.now c.args.shard c.start_of-from.result c.end_of-to.result c.start_of-from.ensures.within c.end_of-to.ensures.within c.start_of-from.ensures.start c.end_of-to.ensures.end in
-    search rules
-
-pub returns : goal.returns
-returns c a =
-    part_has c.args.addrs.now c.args.shard c.start_of-from.result c.end_of-to.result c.start_of-from.ensures.within c.end_of-to.ensures.within c.start_of-from.ensures.start c.end_of-to.ensures.end a
+pub returns-then-lowest-highest : goal.returns-then-lowest-highest
+returns-then-lowest-highest c =
+    let ends = c.in-Some-Some in
+    let within = c.if-highest-shard.false in
+    all_between c.args.addrs.now c.args.shard ends.first.now ends.last.now c.requires ends.ensures.value ends.ensures'.value _ _ c.shard_of_addr-lowest.ensures.value c.shard_of_addr-highest.ensures.value within.0 within.1 c.if-lowest-highest.true
