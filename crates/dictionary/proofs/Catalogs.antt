@@ -1,7 +1,6 @@
 -- The objects of a dictionary, as entries make and change them.
-use Rattle.std.proofs.Common.{◌≡◌, ℕ, zero, suc, ◌-◌, ◌<◌, ◌≤◌, Bool, true, false, cond, nat_eq, nat_le, List, [], ◌∷◌, ◌++◌, Option, Some, None, Result, Ok, Err, refl, sym, ap, ◌∙◌, subst, is_some, unwrap_or, length, slice_index_or, arith, eq-eqb, append-nil}
+use Rattle.std.proofs.Common.{◌≡◌, ℕ, zero, suc, ◌-◌, ◌<◌, ◌≤◌, Bool, true, false, cond, nat_eq, nat_le, List, [], ◌∷◌, ◌++◌, Option, None, Result, Ok, Err, refl, sym, ap, ◌∙◌, subst, length, slice_index_or, arith, eq-eqb, append-nil}
 use Rattle.std.specs.Prelude.{OnOk, OnErr}
-use Rattle.std.specs.Map.{lookup}
 use Rattle.dictionary.specs.declared.history.Step.{Step}
 use Rattle.std.specs.List.{AllByRecursion}
 use Rattle.std.proofs.lemmas.Bool.{leb-true, cond-true, cond-false}
@@ -13,7 +12,7 @@ use Rattle.adg_model.specs.Database.{Database, Table, after, no_database, databa
 use Rattle.adg_model.specs.Defined.{AreDefined}
 use Rattle.adg_model.proofs.LogLaws.{each_weaker, upto_all, upto_append}
 use Rattle.adg_model.proofs.RowLaws.{walked_append}
-use Rattle.dictionary.specs.History.{last_from, defined_from}
+use Rattle.dictionary.specs.History.{has_steps, last_from, defined_from}
 use Rattle.dictionary.specs.Objects.{steps_of, AddsStep, Describes, Catalogs}
 use Rattle.dictionary.proofs.Steps.{last_from_push, defined_from_push}
 use Rattle.dictionary.proofs.Tracking.{by_name}
@@ -41,13 +40,17 @@ pub on_err_always : {T E : Type 0} (r : Result T E) (Q : Type 0) → Q → OnErr
 on_err_always (Ok v) Q q = tt
 on_err_always (Err v) Q q = q
 
--- a step is added to what an object had
-pub adds_step : (old inside new : List (ℕ × List Step)) (obj : ℕ) (step : Step) (had made : List Step) → inside ≡ old → had ≡ steps_of inside obj → made ≡ had ++ step ∷ []
-    → ((q : ℕ) → lookup (nat_eq q) new ≡ cond (nat_eq obj q) (Some made) (lookup (nat_eq q) inside)) → AddsStep old new obj step
-adds_step old inside new obj step had made shown is pushed sets q =
-    sets q
-    ∙ ap (λ (l : List Step). cond (nat_eq obj q) (Some l) (lookup (nat_eq q) inside)) (pushed ∙ ap (λ (l : List Step). l ++ step ∷ []) is)
-    ∙ ap (λ (l : List (ℕ × List Step)). cond (nat_eq obj q) (Some (steps_of l obj ++ step ∷ [])) (lookup (nat_eq q) l)) shown
+-- an object of which there is a step was created
+pub has_steps_push : (steps : List Step) (step : Step) → has_steps (steps ++ step ∷ []) ≡ true
+has_steps_push [] step = refl
+has_steps_push (s ∷ later) step = refl
+
+-- an empty list of steps behind the others gives no object a step
+pub steps_of_longer : (objects : List (List Step)) (q : ℕ) → steps_of (objects ++ [] ∷ []) q ≡ steps_of objects q
+steps_of_longer [] zero = refl
+steps_of_longer [] (suc q) = refl
+steps_of_longer (steps ∷ others) zero = refl
+steps_of_longer (steps ∷ others) (suc q) = steps_of_longer others q
 
 -- a log with one entry more
 pub database_push : (log : List LogEntry) (e : LogEntry) → database (log ++ e ∷ []) ≡ after (database log) e.vector
@@ -121,7 +124,7 @@ describes_same steps log obj e h scns same =
     by_test scn false k = h.at scn
 
 -- no object's table changes
-pub Catalogs_same : (objects : List (ℕ × List Step)) (log : List LogEntry) (e : LogEntry) → Catalogs objects log → AllByRecursion (λ (x : LogEntry). x.scn ≤ e.scn) log
+pub Catalogs_same : (objects : List (List Step)) (log : List LogEntry) (e : LogEntry) → Catalogs objects log → AllByRecursion (λ (x : LogEntry). x.scn ≤ e.scn) log
     → ((obj : ℕ) → (after (database log) e.vector).tables obj ≡ (database log).tables obj) → ((obj : ℕ) → (after (database log) e.vector).created obj ≡ (database log).created obj)
     → Catalogs objects (log ++ e ∷ [])
 Catalogs_same objects log e h scns tables created = record {
@@ -130,7 +133,7 @@ Catalogs_same objects log e h scns tables created = record {
 }
 
 -- one object gets a step, by its table
-pub Catalogs_step : (old new : List (ℕ × List Step)) (log : List LogEntry) (e : LogEntry) (obj : ℕ) (definition : Option Definition) → Catalogs old log → AllByRecursion (λ (x : LogEntry). x.scn ≤ e.scn) log
+pub Catalogs_step : (old new : List (List Step)) (log : List LogEntry) (e : LogEntry) (obj : ℕ) (definition : Option Definition) → Catalogs old log → AllByRecursion (λ (x : LogEntry). x.scn ≤ e.scn) log
     → AddsStep old new obj (record { scn = e.scn; definition = definition })
     → AreDefined obj ((after (database log) e.vector).tables obj) definition
     → (after (database log) e.vector).created obj ≡ true
@@ -139,13 +142,13 @@ pub Catalogs_step : (old new : List (ℕ × List Step)) (log : List LogEntry) (e
     → Catalogs new (log ++ e ∷ [])
 Catalogs_step old new log e obj definition h scns adds made was tables created =
     let step : Step = record { scn = e.scn; definition = definition } in
-    let here : lookup (nat_eq obj) new ≡ Some (steps_of old obj ++ step ∷ []) = adds obj ∙ cond-true (nat_eq obj obj) _ _ (eq-eqb obj obj refl) in
-    let apart : (q : ℕ) → nat_eq obj q ≡ false → lookup (nat_eq q) new ≡ lookup (nat_eq q) old = λ q k. adds q ∙ cond-false (nat_eq obj q) _ _ k in
+    let here : steps_of new obj ≡ steps_of old obj ++ step ∷ [] = adds obj ∙ cond-true (nat_eq obj obj) _ _ (eq-eqb obj obj refl) in
+    let apart : (q : ℕ) → nat_eq obj q ≡ false → steps_of new q ≡ steps_of old q = λ q k. adds q ∙ cond-false (nat_eq obj q) _ _ k in
     record {
-      created = by_name (λ q. is_some (lookup (nat_eq q) new) ≡ (database (log ++ e ∷ [])).created q) obj
-          (ap is_some here ∙ sym was ∙ sym (ap (λ (db : Database). db.created obj) (database_push log e)))
-          (λ q k. ap is_some (apart q k) ∙ h.created q ∙ sym (created q k) ∙ sym (ap (λ (db : Database). db.created q) (database_push log e)));
+      created = by_name (λ q. has_steps (steps_of new q) ≡ (database (log ++ e ∷ [])).created q) obj
+          (ap has_steps here ∙ has_steps_push (steps_of old obj) step ∙ sym was ∙ sym (ap (λ (db : Database). db.created obj) (database_push log e)))
+          (λ q k. ap has_steps (apart q k) ∙ h.created q ∙ sym (created q k) ∙ sym (ap (λ (db : Database). db.created q) (database_push log e)));
       described = by_name (λ q. Describes (steps_of new q) (log ++ e ∷ []) q) obj
-          (subst (λ (l : List Step). Describes l (log ++ e ∷ []) obj) (sym (ap (λ (o : Option (List Step)). unwrap_or o []) here)) (describes_step (steps_of old obj) log obj e definition (h.described obj) scns made))
-          (λ q k. subst (λ (l : List Step). Describes l (log ++ e ∷ []) q) (sym (ap (λ (o : Option (List Step)). unwrap_or o []) (apart q k))) (describes_same (steps_of old q) log q e (h.described q) scns (tables q k)));
+          (subst (λ (l : List Step). Describes l (log ++ e ∷ []) obj) (sym here) (describes_step (steps_of old obj) log obj e definition (h.described obj) scns made))
+          (λ q k. subst (λ (l : List Step). Describes l (log ++ e ∷ []) q) (sym (apart q k)) (describes_same (steps_of old q) log q e (h.described q) scns (tables q k)));
     }

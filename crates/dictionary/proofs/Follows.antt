@@ -1,8 +1,7 @@
 -- A dictionary and its log, before an entry and after it.
-use Rattle.std.proofs.Common.{◌≡◌, ℕ, ◌+◌, ◌≤◌, Bool, true, false, not, nat_eq, List, [], ◌∷◌, ◌++◌, length, Option, Some, None, Err, refl, sym, ap, ◌∙◌, subst, is_some, unwrap_or, arith}
+use Rattle.std.proofs.Common.{◌≡◌, ℕ, ◌+◌, ◌≤◌, Bool, true, false, not, nat_eq, List, [], ◌∷◌, ◌++◌, length, Option, Some, None, Err, refl, sym, ap, ◌∙◌, subst, arith}
 use Rattle.std.specs.Bool.{beq}
 use Rattle.std.proofs.lemmas.Bool.{true≢false}
-use Rattle.std.specs.Map.{lookup}
 use Rattle.std.specs.List.{AllByRecursion}
 use Rattle.adg_base.specs.declared.value.ColKind.{ColKind}
 use Rattle.adg_base.specs.declared.value.Value.{Value}
@@ -26,7 +25,7 @@ use Rattle.dictionary.specs.Standing.{Known, StandsFor, MayFollow, IsAnswer}
 use Rattle.dictionary.specs.declared.refused.RedoRefused.{RedoRefused}
 use Rattle.dictionary.specs.declared.refused.RedoRefused.TheVariants.{Check, Memory}
 use Rattle.dictionary.specs.Checks.{IsPlaced, IsMisplaced}
-use Rattle.dictionary.specs.History.{last_from}
+use Rattle.dictionary.specs.History.{has_steps, last_from}
 use Rattle.dictionary.proofs.Tracking.{set_at_here, set_at_apart}
 use Rattle.dictionary.proofs.Catalogs.{database_push, Catalogs_same, Catalogs_step}
 
@@ -59,7 +58,7 @@ module _ (old new : Known) (log : List LogEntry) (e : LogEntry) (v : Vector) (s 
       → new.objects ≡ old.objects → TracksIn new.transactions (after (database log) v) → StandsFor new (log ++ e ∷ [])
   takes_up_transaction tables created same tracks =
       let back : (x : Vector) → e.vector ≡ x → v ≡ x = λ x k. sym is ∙ k in
-      more tracks (subst (λ (l : List (ℕ × List Step)). Catalogs l (log ++ e ∷ [])) (sym same)
+      more tracks (subst (λ (l : List (List Step)). Catalogs l (log ++ e ∷ [])) (sym same)
       (Catalogs_same old.objects log e s.objects f.scn
       (subst (λ (x : Vector). (obj : ℕ) → (after (database log) x).tables obj ≡ (database log).tables obj) (sym is) tables)
       (subst (λ (x : Vector). (obj : ℕ) → (after (database log) x).created obj ≡ (database log).created obj) (sym is) created)))
@@ -146,25 +145,25 @@ passes_undo db txn obj block slot addr definition p has =
     ∙ ap (λ (b : Bool). demand b NothingToUndo None) (sym (ap (λ (a : Place). has_change a (db.pending txn)) p.at) ∙ has)
 
 -- what is known of an object that has a definition
-pub record IsFound (db : Database) (objects : List (ℕ × List Step)) (obj : ℕ) (definition : Definition) : Type 0 where
+pub record IsFound (db : Database) (objects : List (List Step)) (obj : ℕ) (definition : Definition) : Type 0 where
   pub table : Table
   pub there : db.tables obj ≡ Some table
   pub defined : IsDefinition obj table definition
-  pub known : is_some (lookup (nat_eq obj) objects) ≡ true
+  pub known : has_steps (steps_of objects obj) ≡ true
   pub created : db.created obj ≡ true
 
-pub found : (objects : List (ℕ × List Step)) (log : List LogEntry) (obj : ℕ) (definition : Definition) → Catalogs objects log → Some definition ≡ last_from None (steps_of objects obj) → IsFound (database log) objects obj definition
+pub found : (objects : List (List Step)) (log : List LogEntry) (obj : ℕ) (definition : Definition) → Catalogs objects log → Some definition ≡ last_from None (steps_of objects obj) → IsFound (database log) objects obj definition
 found objects log obj definition h is =
     by_table ((database log).tables obj) refl (subst (AreDefined obj ((database log).tables obj)) (sym is) (h.described obj).latest)
   where
-    known : (o : Option (List Step)) → Some definition ≡ last_from None (unwrap_or o []) → is_some o ≡ true
-    known None e = absurd cc
-    known (Some steps) e = refl
+    known : (steps : List Step) → Some definition ≡ last_from None steps → has_steps steps ≡ true
+    known [] e = absurd cc
+    known (step ∷ later) e = refl
 
     by_table : (o : Option Table) → (database log).tables obj ≡ o → AreDefined obj o (Some definition) → IsFound (database log) objects obj definition
     by_table None e d = absurd d
     by_table (Some t) e d =
-        let k = known (lookup (nat_eq obj) objects) is in
+        let k = known (steps_of objects obj) is in
         record { table = t; there = e; defined = d; known = k; created = sym (h.created obj) ∙ k }
 
 pub flag_is : (a b : Bool) → not (beq a b) ≡ false → a ≡ b
@@ -176,9 +175,9 @@ flag_is false false e = refl
 pub passes_on_table : (db : Database) (obj : ℕ) (table : Table) (later : Table → Option CheckKind) → db.tables obj ≡ Some table → on_table (db.tables obj) later ≡ later table
 passes_on_table db obj table later there = ap (λ (o : Option Table). on_table o later) there
 
-pub none_from : {T : Type 0} (o : Option T) → is_some o ≡ false → o ≡ None
-none_from None e = refl
-none_from (Some x) e = absurd (true≢false e)
+pub none_from : (steps : List Step) → has_steps steps ≡ false → steps ≡ []
+none_from [] e = refl
+none_from (step ∷ later) e = absurd (true≢false e)
 
 -- the empty dictionary and the empty log
 pub stands_for_nothing : (transactions : Held) → TracksIn transactions no_database → StandsFor (record { transactions = transactions; objects = [] }) []

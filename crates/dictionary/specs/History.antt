@@ -1,7 +1,12 @@
 -- The definitions that an object had, one after another.
-use Rattle.std.specs.Prelude.{ℕ, nat_le, if◌then◌else◌, List, [], ◌∷◌, Option}
+use Rattle.std.specs.Prelude.{ℕ, Bool, true, false, nat_le, if◌then◌else◌, List, [], ◌∷◌, Option}
 use Rattle.adg_base.specs.declared.definition.Definition.{Definition}
 use Rattle.dictionary.specs.declared.history.Step.{Step}
+
+-- whether there was an entry of the object
+abbrev pub has_steps : List Step → Bool
+has_steps [] = false
+has_steps (step ∷ later) = true
 
 -- the definition of the last step, or the one before it all
 abbrev pub last_from : Option Definition → List Step → Option Definition

@@ -1,21 +1,20 @@
 -- The objects of a dictionary.
-use Rattle.std.specs.Prelude.{◌≡◌, ℕ, ◌≤◌, cond, nat_eq, List, [], ◌∷◌, ◌++◌, None, Some, is_some, unwrap_or}
+use Rattle.std.specs.Prelude.{◌≡◌, ℕ, ◌≤◌, cond, nat_eq, List, [], ◌∷◌, ◌++◌, None, slice_index_or}
 use Rattle.std.specs.List.{AllByRecursion}
 use Rattle.std.specs.List.Sorted.{IsNonDecreasingBy}
-use Rattle.std.specs.Map.{lookup}
 use Rattle.adg_base.specs.declared.log.LogEntry.{LogEntry}
 use Rattle.adg_model.specs.Database.{database, table_at}
 use Rattle.dictionary.specs.declared.history.Step.{Step}
 use Rattle.adg_model.specs.Defined.{AreDefined}
-use Rattle.dictionary.specs.History.{last_from, defined_from}
+use Rattle.dictionary.specs.History.{has_steps, last_from, defined_from}
 
-abbrev pub steps_of : List (ℕ × List Step) → ℕ → List Step
-steps_of objects obj = unwrap_or (lookup (nat_eq obj) objects) []
+-- the steps of an object stand in the list at its number; one that was not created has none
+abbrev pub steps_of : List (List Step) → ℕ → List Step
+steps_of objects obj = slice_index_or objects obj []
 
 -- one object has one step more
-abbrev pub AddsStep : List (ℕ × List Step) → List (ℕ × List Step) → ℕ → Step → Type 0
-AddsStep old new obj step =
-    (q : ℕ) → lookup (nat_eq q) new ≡ cond (nat_eq obj q) (Some (steps_of old obj ++ step ∷ [])) (lookup (nat_eq q) old)
+abbrev pub AddsStep : List (List Step) → List (List Step) → ℕ → Step → Type 0
+AddsStep old new obj step = (q : ℕ) → steps_of new q ≡ cond (nat_eq obj q) (steps_of old obj ++ step ∷ []) (steps_of old q)
 
 -- the steps of an object by a log
 pub record Describes (steps : List Step) (log : List LogEntry) (obj : ℕ) : Type 0 where
@@ -25,6 +24,6 @@ pub record Describes (steps : List Step) (log : List LogEntry) (obj : ℕ) : Typ
   pub within : (scn : ℕ) → AllByRecursion (λ e. e.scn ≤ scn) log → AllByRecursion (λ step. step.scn ≤ scn) steps
 
 -- the objects are those that were created, with the definitions that they had
-pub record Catalogs (objects : List (ℕ × List Step)) (log : List LogEntry) : Type 0 where
-  pub created : (obj : ℕ) → is_some (lookup (nat_eq obj) objects) ≡ (database log).created obj
+pub record Catalogs (objects : List (List Step)) (log : List LogEntry) : Type 0 where
+  pub created : (obj : ℕ) → has_steps (steps_of objects obj) ≡ (database log).created obj
   pub described : (obj : ℕ) → Describes (steps_of objects obj) log obj

@@ -16,7 +16,7 @@ use Rattle.dictionary.specs.Objects.{Catalogs}
 -- the transactions, and the steps of each object
 pub record Known : Type 0 where
   pub transactions : Held
-  pub objects : List (ℕ × List Step)
+  pub objects : List (List Step)
 
 -- A log is sound, its positions run on from 0, and its SCNs do not fall. The transactions and the
 -- objects of a dictionary are those of the log.

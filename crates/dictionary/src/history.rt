@@ -1,7 +1,7 @@
-ghost use Rattle.std.specs.Prelude.{◌≡◌, [], ◌∷◌, ◌++◌, None, OnOk, OnErr};
+ghost use Rattle.std.specs.Prelude.{◌≡◌, not, [], ◌∷◌, ◌++◌, None, OnOk, OnErr};
 ghost use Rattle.std.specs.Option.{option_copied};
 ghost use Rattle.std.specs.List.Sorted.{IsNonDecreasingBy};
-ghost use Rattle.dictionary.specs.History.{last_from, defined_from};
+ghost use Rattle.dictionary.specs.History.{has_steps, last_from, defined_from};
 
 use adg_base::definition::Definition;
 use adg_base::memory::Memory;
@@ -39,6 +39,13 @@ impl History {
         History {
             steps: Vec::new(alloc),
         }
+    }
+
+    /// Whether there was no entry.
+    pub fn is_empty(&self) -> bool
+        ensures { result ≡ not (has_steps self.now) }
+    {
+        self.steps.is_empty()
     }
 
     /// The definition after all entries.
