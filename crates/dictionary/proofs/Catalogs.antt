@@ -1,6 +1,6 @@
 -- The objects of a dictionary, as entries make and change them.
 use Rattle.std.proofs.Common.{◌≡◌, ℕ, zero, suc, ◌-◌, ◌<◌, ◌≤◌, Bool, true, false, cond, nat_eq, nat_le, List, [], ◌∷◌, ◌++◌, Option, None, Result, Ok, Err, refl, sym, ap, ◌∙◌, subst, length, slice_index_or, arith, eq-eqb, append-nil}
-use Rattle.std.specs.Prelude.{OnOk, OnErr}
+use Rattle.std.specs.Prelude.{OnErr}
 use Rattle.dictionary.specs.declared.history.Step.{Step}
 use Rattle.std.specs.List.{AllByRecursion}
 use Rattle.std.proofs.lemmas.Bool.{leb-true, cond-true, cond-false}
@@ -17,31 +17,13 @@ use Rattle.dictionary.specs.Objects.{steps_of, AddsStep, Describes, Catalogs}
 use Rattle.dictionary.proofs.Steps.{last_from_push, defined_from_push}
 use Rattle.dictionary.proofs.Tracking.{by_name}
 
--- what a result says of what comes before it
-pub on_ok_weaker : {T E : Type 0} (r s : Result T E) (P Q : Type 0) → r ≡ s → (P → Q) → OnOk s P → OnOk r Q
-on_ok_weaker {T} {E} r s P Q e f h = subst (λ (x : Result T E). OnOk x Q) (sym e) (weaker s h)
-  where
-    weaker : (x : Result T E) → OnOk x P → OnOk x Q
-    weaker (Ok v) k = f k
-    weaker (Err v) k = tt
-
-pub on_err_weaker : {T E : Type 0} (r s : Result T E) (P Q : Type 0) → r ≡ s → (P → Q) → OnErr s P → OnErr r Q
-on_err_weaker {T} {E} r s P Q e f h = subst (λ (x : Result T E). OnErr x Q) (sym e) (weaker s h)
-  where
-    weaker : (x : Result T E) → OnErr x P → OnErr x Q
-    weaker (Ok v) k = tt
-    weaker (Err v) k = f k
-
-pub on_err_ok : {T E : Type 0} (r : Result T E) (v : T) (Q : Type 0) → r ≡ Ok v → OnErr r Q
-on_err_ok {T} {E} r v Q e = subst (λ (x : Result T E). OnErr x Q) (sym e) tt
-
 -- what holds anyway holds where there is an error
 pub on_err_always : {T E : Type 0} (r : Result T E) (Q : Type 0) → Q → OnErr r Q
 on_err_always (Ok v) Q q = tt
 on_err_always (Err v) Q q = q
 
 -- an object of which there is a step was created
-pub has_steps_push : (steps : List Step) (step : Step) → has_steps (steps ++ step ∷ []) ≡ true
+has_steps_push : (steps : List Step) (step : Step) → has_steps (steps ++ step ∷ []) ≡ true
 has_steps_push [] step = refl
 has_steps_push (s ∷ later) step = refl
 
