@@ -1,5 +1,6 @@
 -- A dictionary and its log, before an entry and after it.
-use Rattle.std.proofs.Common.{◌≡◌, ℕ, ◌+◌, ◌≤◌, Bool, true, false, not, nat_eq, List, [], ◌∷◌, ◌++◌, length, Option, Some, None, Err, refl, sym, ap, ◌∙◌, subst, arith}
+use Rattle.std.proofs.Common.{◌≡◌, ℕ, ◌+◌, ◌≤◌, Bool, true, false, not, nat_eq, List, [], ◌∷◌, ◌++◌, length, Option, Some, None, Result, Ok, Err, refl, sym, ap, ◌∙◌, subst, arith}
+use Rattle.std.specs.Prelude.{OnOk}
 use Rattle.std.specs.Bool.{beq}
 use Rattle.std.proofs.lemmas.Bool.{true≢false}
 use Rattle.std.specs.List.{AllByRecursion}
@@ -10,7 +11,7 @@ use Rattle.adg_base.specs.declared.vector.Vector.{Vector}
 use Rattle.adg_base.specs.declared.vector.Vector.TheVariants.{Put, Undo, Commit, Create}
 use Rattle.adg_base.specs.declared.log.LogEntry.{LogEntry}
 use Rattle.adg_model.specs.declared.fault.CheckKind.{CheckKind}
-use Rattle.adg_model.specs.declared.fault.CheckKind.TheVariants.{BadRow, NothingToUndo}
+use Rattle.adg_model.specs.declared.fault.CheckKind.TheVariants.{TxnUnknown, BadRow, NothingToUndo}
 use Rattle.adg_model.specs.Spelling.{IsVector}
 use Rattle.adg_model.specs.Log.{numbered}
 use Rattle.adg_model.specs.Database.{Database, Table, after, no_database, walked, database, set_at, is_in_memory, has_change}
@@ -21,10 +22,8 @@ use Rattle.adg_model.proofs.LogLaws.{numbered_append}
 use Rattle.dictionary.specs.declared.history.Step.{Step}
 use Rattle.dictionary.specs.Transactions.{Held, TracksIn}
 use Rattle.dictionary.specs.Objects.{steps_of, AddsStep, Catalogs}
-use Rattle.dictionary.specs.Standing.{Known, StandsFor, MayFollow, IsAnswer}
-use Rattle.dictionary.specs.declared.refused.RedoRefused.{RedoRefused}
-use Rattle.dictionary.specs.declared.refused.RedoRefused.TheVariants.{Check, Memory}
-use Rattle.dictionary.specs.Checks.{IsPlaced, IsMisplaced}
+use Rattle.dictionary.specs.Standing.{Known, StandsFor, MayFollow}
+use Rattle.dictionary.specs.Checks.{IsPlaced}
 use Rattle.dictionary.specs.History.{has_steps, last_from}
 use Rattle.dictionary.proofs.Tracking.{set_at_here, set_at_apart}
 use Rattle.dictionary.proofs.Catalogs.{database_push, Catalogs_same, Catalogs_step}
@@ -106,27 +105,33 @@ module _ (old new : Known) (log : List LogEntry) (e : LogEntry) (v : Vector) (s 
       (subst (λ (x : Vector). (q : ℕ) → nat_eq obj q ≡ false → (after db x).tables q ≡ db.tables q) (sym create) (λ q k. set_at_apart obj (Some made) db.tables q k))
       (subst (λ (x : Vector). (q : ℕ) → nat_eq obj q ≡ false → (after db x).created q ≡ db.created q) (sym create) (λ q k. set_at_apart obj true db.created q k))
 
--- the place of a change, from what was found of the transaction and the object
-pub placed : (db : Database) (txn obj block slot : ℕ) (addr : Place) (definition : Definition) → is_running db txn ≡ true → AreDefined obj (db.tables obj) (Some definition)
-    → ((table : Table) → IsDefinition obj table definition → (has_address table block slot ≡ true) × (addr ≡ place obj block slot)) → IsPlaced db txn obj block slot addr definition
-placed db txn obj block slot addr definition running defined within = by_table (db.tables obj) refl defined
+-- the place of a change, from what was found of its object
+pub placed : (db : Database) (obj block slot : ℕ) (addr : Place) (definition : Definition) → AreDefined obj (db.tables obj) (Some definition)
+    → ((table : Table) → IsDefinition obj table definition → (has_address table block slot ≡ true) × (addr ≡ place obj block slot)) → IsPlaced db obj block slot addr definition
+placed db obj block slot addr definition defined within = by_table (db.tables obj) refl defined
   where
-    by_table : (o : Option Table) → db.tables obj ≡ o → AreDefined obj o (Some definition) → IsPlaced db txn obj block slot addr definition
+    by_table : (o : Option Table) → db.tables obj ≡ o → AreDefined obj o (Some definition) → IsPlaced db obj block slot addr definition
     by_table None e h = absurd h
-    by_table (Some t) e h = let at = within t h in record { running = running; table = t; there = e; defined = h; within = at.0; at = at.1 }
+    by_table (Some t) e h = let at = within t h in record { table = t; there = e; defined = h; within = at.0; at = at.1 }
 
--- a change that is placed passes the checks of its address
-pub passes_placed : (db : Database) (txn obj block slot : ℕ) (addr : Place) (definition : Definition) (p : IsPlaced db txn obj block slot addr definition) (later : Table → Option CheckKind) → on_change db txn obj block slot later ≡ later p.table
-passes_placed db txn obj block slot addr definition p later = rw (p.running, p.there, p.within) refl
+-- of a change that is placed, its transaction and what comes later is checked
+pub passes_placed : (db : Database) (txn obj block slot : ℕ) (addr : Place) (definition : Definition) (p : IsPlaced db obj block slot addr definition) (later : Table → Option CheckKind)
+    → on_change db txn obj block slot later ≡ demand (is_running db txn) TxnUnknown (later p.table)
+passes_placed db txn obj block slot addr definition p later = rw (p.there, p.within) refl
 
--- one that is misplaced is answered so
-pub answers_misplaced : (T : Type 0) (db : Database) (txn obj block slot : ℕ) (refused : RedoRefused) → IsMisplaced db txn obj block slot refused → (later : Table → Option CheckKind) → IsAnswer {T = T} (Err refused) (on_change db txn obj block slot later)
-answers_misplaced T db txn obj block slot (Check check) h later = h later
-answers_misplaced T db txn obj block slot Memory h later = tt
+-- what follows where there is no error
+pub on_ok_from : {T E : Type 0} (r : Result T E) (P Q R : Type 0) → OnOk r P → OnOk r Q → ((v : T) → r ≡ Ok v → P → Q → R) → OnOk r R
+on_ok_from (Ok v) P Q R p q f = f v refl p q
+on_ok_from (Err e) P Q R p q f = tt
+
+-- a demand that is met
+pub is_met : (b : Bool) (check : CheckKind) → demand b check None ≡ None → b ≡ true
+is_met true check e = refl
+is_met false check e = absurd cc
 
 -- the flag of a placed change's object is that of its table
-pub placed_flag : (db : Database) (txn obj block slot : ℕ) (addr : Place) (definition : Definition) → IsPlaced db txn obj block slot addr definition → definition.flag ≡ is_in_memory (db.tables addr.obj)
-placed_flag db txn obj block slot addr definition p =
+pub placed_flag : (db : Database) (obj block slot : ℕ) (addr : Place) (definition : Definition) → IsPlaced db obj block slot addr definition → definition.flag ≡ is_in_memory (db.tables addr.obj)
+placed_flag db obj block slot addr definition p =
     p.defined.flag ∙ sym (ap is_in_memory p.there) ∙ sym (ap (λ (a : Place). is_in_memory (db.tables a.obj)) p.at)
 
 same_flag_refl : (b : Bool) → same_flag b b ≡ true
@@ -136,13 +141,17 @@ same_flag_refl false = refl
 pub passes_commit : (db : Database) (txn : ℕ) (flag : Bool) → is_running db txn ≡ true → db.noted txn ≡ flag → refusal db (Commit txn flag) ≡ None
 passes_commit db txn flag running noted = rw (running, noted, same_flag_refl flag) refl
 
-pub passes_put : (db : Database) (txn obj block slot : ℕ) (row : List Value) (addr : Place) (definition : Definition) (p : IsPlaced db txn obj block slot addr definition) → fits_row row p.table.kinds ≡ true → refusal db (Put txn obj block slot row) ≡ None
-passes_put db txn obj block slot row addr definition p fits = passes_placed db txn obj block slot addr definition p (λ table. demand (fits_row row table.kinds) BadRow None) ∙ ap (λ (b : Bool). demand b BadRow None) fits
+pub row_placed : (db : Database) (txn obj block slot : ℕ) (row : List Value) (addr : Place) (definition : Definition) (p : IsPlaced db obj block slot addr definition) (fits : Bool) → fits_row row p.table.kinds ≡ fits
+    → refusal db (Put txn obj block slot row) ≡ demand (is_running db txn) TxnUnknown (demand fits BadRow None)
+row_placed db txn obj block slot row addr definition p fits e =
+    passes_placed db txn obj block slot addr definition p (λ table. demand (fits_row row table.kinds) BadRow None) ∙ ap (λ (b : Bool). demand (is_running db txn) TxnUnknown (demand b BadRow None)) e
 
-pub passes_undo : (db : Database) (txn obj block slot : ℕ) (addr : Place) (definition : Definition) (p : IsPlaced db txn obj block slot addr definition) → has_change addr (db.pending txn) ≡ true → refusal db (Undo txn obj block slot) ≡ None
-passes_undo db txn obj block slot addr definition p has =
+pub undo_placed : (db : Database) (txn obj block slot : ℕ) (addr : Place) (definition : Definition) (p : IsPlaced db obj block slot addr definition) (has : Bool) → is_running db txn ≡ true → has_change addr (db.pending txn) ≡ has
+    → refusal db (Undo txn obj block slot) ≡ demand has NothingToUndo None
+undo_placed db txn obj block slot addr definition p has running e =
     passes_placed db txn obj block slot addr definition p (λ table. demand (has_change (place obj block slot) (db.pending txn)) NothingToUndo None)
-    ∙ ap (λ (b : Bool). demand b NothingToUndo None) (sym (ap (λ (a : Place). has_change a (db.pending txn)) p.at) ∙ has)
+    ∙ ap (λ (b : Bool). demand b TxnUnknown (demand (has_change (place obj block slot) (db.pending txn)) NothingToUndo None)) running
+    ∙ ap (λ (b : Bool). demand b NothingToUndo None) (sym (ap (λ (a : Place). has_change a (db.pending txn)) p.at) ∙ e)
 
 -- what is known of an object that has a definition
 pub record IsFound (db : Database) (objects : List (List Step)) (obj : ℕ) (definition : Definition) : Type 0 where

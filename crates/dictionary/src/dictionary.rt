@@ -1,9 +1,12 @@
-ghost use Rattle.std.specs.Prelude.{◌≡◌, ℕ, List, [], ◌∷◌, ◌++◌, OnOk, OnErr, MatchResult};
+ghost use Rattle.std.specs.Prelude.{◌≡◌, ℕ, List, [], ◌∷◌, ◌++◌, Option, Some, None, OnOk, OnErr, MatchResult};
 ghost use Rattle.adg_base.specs.declared.log.LogEntry.{LogEntry as Entry};
 ghost use Rattle.adg_base.specs.declared.vector.Vector.TheVariants.{Begin, Put, Delete, Undo, Commit, Abort, Create, DropObject as Drops, AddColumn, NoInMemory};
-ghost use Rattle.adg_model.specs.Database.{database, table_at};
+ghost use Rattle.adg_model.specs.Database.{database, table_at, with_change, is_in_memory};
+ghost use Rattle.adg_model.specs.declared.fault.CheckKind.TheVariants.{TxnUnknown};
+ghost use Rattle.adg_base.specs.declared.value.Value.{Value as Cell};
+ghost use Rattle.dictionary.specs.Transactions.{TracksIn};
 ghost use Rattle.adg_model.specs.Defined.{AreDefined};
-ghost use Rattle.adg_model.specs.Sound.{refusal};
+ghost use Rattle.adg_model.specs.Sound.{refusal, demand, is_running};
 ghost use Rattle.dictionary.specs.Standing.{StandsFor, MayFollow, IsAnswer};
 ghost use Rattle.dictionary.specs.Checks.{Answers, TakesUp, IsPlaced, IsMisplaced};
 
@@ -114,27 +117,45 @@ impl Dictionary {
         Ok(())
     }
 
-    /// The address of a change of a running transaction, and the definition of its object.
-    fn place_of(
-        &self,
-        txn: Txn,
-        obj: Obj,
-        block: u16,
-        slot: u8,
-    ) -> Result<(Addr, &Definition), RedoRefused>
+    /// The address of a change, and the definition of its object; or the check that it fails.
+    fn place_of(&self, obj: Obj, block: u16, slot: u8) -> Result<(Addr, &Definition), CheckKind>
         ensures { (log : List Entry) → StandsFor self.now log → MatchResult result
-            (λ found. IsPlaced (database log) txn obj block slot found.0 found.1.now)
-            (IsMisplaced (database log) txn obj block slot) }
+            (λ found. IsPlaced (database log) obj block slot found.0 found.1.now)
+            (IsMisplaced (database log) obj block slot) }
     {
-        if !self.transactions.is_running(txn) {
-            return Err(RedoRefused::Check(CheckKind::TxnUnknown));
-        }
         let Some(definition) = self.objects.latest(obj) else {
-            return Err(RedoRefused::Check(CheckKind::NoObject));
+            return Err(CheckKind::NoObject);
         };
         match address_in(definition, block, slot) {
             Some(addr) => Ok((addr, definition)),
-            None => Err(RedoRefused::Check(CheckKind::BadAddress)),
+            None => Err(CheckKind::BadAddress),
+        }
+    }
+
+    /// The first check that a change fails, where this is the first but for that of its transaction.
+    fn first_of(&self, txn: Txn, check: CheckKind) -> CheckKind
+        ensures { (log : List Entry) → StandsFor self.now log → demand (is_running (database log) txn) TxnUnknown (Some check) ≡ Some result }
+    {
+        if self.transactions.is_running(txn) {
+            check
+        } else {
+            CheckKind::TxnUnknown
+        }
+    }
+
+    /// A transaction makes a change that passes all checks but for that of the transaction, which is made
+    /// here, since a change looks for its transaction.
+    fn change(&mut self, txn: Txn, addr: Addr, in_memory: bool) -> Result<(), RedoRefused>
+        ensures answer { (log : List Entry) → StandsFor self.old log → IsAnswer result (demand (is_running (database log) txn) TxnUnknown None) }
+        ensures objects { OnOk result (self.new.objects ≡ self.old.objects) }
+        ensures accepted { OnOk result ((log : List Entry) (row : Option (List Cell)) → StandsFor self.old log → in_memory ≡ is_in_memory ((database log).tables addr.obj)
+            → TracksIn self.new.transactions (with_change (database log) txn (record { at = addr; row = row }))) }
+        ensures unchanged { OnErr result (self.new ≡ self.old) }
+    {
+        if self.transactions.change(txn, addr, in_memory)? {
+            Ok(())
+        } else {
+            Err(RedoRefused::Check(CheckKind::TxnUnknown))
         }
     }
 
@@ -151,16 +172,15 @@ impl Dictionary {
         ensures accepted { OnOk result ((scn : ℕ) → TakesUp self.old self.new scn (Put txn obj block slot row.now)) }
         ensures unchanged { OnErr result (self.new ≡ self.old) }
     {
-        let (addr, definition) = match self.place_of(txn, obj, block, slot) {
+        let (addr, definition) = match self.place_of(obj, block, slot) {
             Ok(found) => found,
-            Err(refused) => return Err(refused),
+            Err(check) => return Err(RedoRefused::Check(self.first_of(txn, check))),
         };
         if !fits_row(row.as_slice(), kinds_of(definition)) {
-            return Err(RedoRefused::Check(CheckKind::BadRow));
+            return Err(RedoRefused::Check(self.first_of(txn, CheckKind::BadRow)));
         }
         let in_memory = definition.flag;
-        self.transactions.change(txn, addr, in_memory)?;
-        Ok(())
+        self.change(txn, addr, in_memory)
     }
 
     /// A transaction removes a row.
@@ -169,13 +189,12 @@ impl Dictionary {
         ensures accepted { OnOk result ((scn : ℕ) → TakesUp self.old self.new scn (Delete txn obj block slot)) }
         ensures unchanged { OnErr result (self.new ≡ self.old) }
     {
-        let (addr, definition) = match self.place_of(txn, obj, block, slot) {
+        let (addr, definition) = match self.place_of(obj, block, slot) {
             Ok(found) => found,
-            Err(refused) => return Err(refused),
+            Err(check) => return Err(RedoRefused::Check(self.first_of(txn, check))),
         };
         let noted = definition.flag;
-        self.transactions.change(txn, addr, noted)?;
-        Ok(())
+        self.change(txn, addr, noted)
     }
 
     /// A transaction takes back its latest change at an address.
@@ -184,9 +203,12 @@ impl Dictionary {
         ensures accepted { OnOk result ((scn : ℕ) → TakesUp self.old self.new scn (Undo txn obj block slot)) }
         ensures unchanged { OnErr result (self.new ≡ self.old) }
     {
-        let (addr, _) = match self.place_of(txn, obj, block, slot) {
+        if !self.transactions.is_running(txn) {
+            return Err(RedoRefused::Check(CheckKind::TxnUnknown));
+        }
+        let (addr, _) = match self.place_of(obj, block, slot) {
             Ok(found) => found,
-            Err(refused) => return Err(refused),
+            Err(check) => return Err(RedoRefused::Check(check)),
         };
         if !self.transactions.has_pending(txn, addr) {
             return Err(RedoRefused::Check(CheckKind::NothingToUndo));

@@ -1,4 +1,4 @@
-ghost use Rattle.std.specs.Prelude.{◌≡◌, true, false, List, Option, OnOk, OnErr};
+ghost use Rattle.std.specs.Prelude.{◌≡◌, true, false, List, Option, Ok, IfOk, OnOk, OnErr};
 ghost use Rattle.adg_base.specs.declared.value.Value.{Value as Cell};
 ghost use Rattle.adg_model.specs.Database.{Database, has_change, with_change, with_end};
 ghost use Rattle.adg_model.specs.Database as model;
@@ -88,21 +88,24 @@ impl Transactions {
         Ok(())
     }
 
-    /// Adds a pending change of a running transaction; the flag says whether the object is in-memory.
-    pub fn change(&mut self, txn: Txn, addr: Addr, in_memory: bool) -> Result<(), Memory>
+    /// Adds a pending change of a transaction, where it is running, and tells whether it is; the flag says
+    /// whether the object is in-memory.
+    pub fn change(&mut self, txn: Txn, addr: Addr, in_memory: bool) -> Result<bool, Memory>
+        ensures running { IfOk result (λ ran. (db : Database) → TracksIn self.old db → ran ≡ sound.is_running db txn) }
         ensures ok { OnOk result ((db : Database) (row : Option (List Cell)) → TracksIn self.old db → sound.is_running db txn ≡ true
             → in_memory ≡ model.is_in_memory (db.tables addr.obj) → TracksIn self.new (with_change db txn (record { at = addr; row = row }))) }
+        ensures idle { result ≡ Ok false → self.new ≡ self.old }
         ensures err { OnErr result (self.new ≡ self.old) }
     {
         let Some(running) = self.running.get_mut(&txn) else {
-            return Ok(());
+            return Ok(false);
         };
         let is_new = self.pending.add(Change { txn, addr }, running.latest)?;
         running.noted = running.noted || in_memory;
         if is_new {
             running.latest = Some(addr);
         }
-        Ok(())
+        Ok(true)
     }
 
     /// Strikes the latest pending change of a running transaction at an address.

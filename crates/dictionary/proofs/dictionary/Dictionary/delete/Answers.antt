@@ -1,28 +1,25 @@
-use Rattle.std.proofs.Common.{None, refl, sym, subst}
+use Rattle.std.proofs.Common.{◌≡◌, Bool, true, None, Result, refl, ap, subst, ◌∙◌}
 use Rattle.adg_base.specs.Address.{Place}
 use Rattle.adg_model.specs.Database.{database, with_change}
-use Rattle.dictionary.specs.Standing.{Known, StandsFor}
+use Rattle.adg_model.specs.Sound.{demand, is_running}
+use Rattle.adg_model.specs.declared.fault.CheckKind.TheVariants.{TxnUnknown}
+use Rattle.dictionary.specs.declared.refused.RedoRefused.{RedoRefused}
+use Rattle.dictionary.specs.Standing.{IsAnswer}
 use Rattle.dictionary.specs.Transactions.{TracksIn}
 use Rattle.dictionary.specs.Checks.{IsPlaced}
-use Rattle.dictionary.proofs.Follows.{takes_up_transaction, answers_misplaced, passes_placed, placed_flag}
+use Rattle.dictionary.proofs.Follows.{takes_up_transaction, placed_flag, passes_placed, on_ok_from, is_met}
 use Rattle.dictionary.proofs.dictionary.Dictionary.delete.Goals as goal
 
-pub returns-in-Err-clause-answer : goal.returns-in-Err-clause-answer
-returns-in-Err-clause-answer c log s =
-    let db = database log in
-    let old : Known = record { transactions = c.self.inside.transactions; objects = c.self.inside.objects } in
-    let t : StandsFor old log = subst (λ (k : Known). StandsFor k log) (sym c.self.view_is) s in
-    answers_misplaced (Unit {0}) db c.args.txn c.args.obj c.args.block c.args.slot c.in-Err.refused (c.in-Err.ensures log s) _
-
 pub returns-clause-accepted : goal.returns-clause-accepted
-returns-clause-accepted c scn log e s f at is =
+returns-clause-accepted c = on_ok_from c.change.result _ _ _ c.change.ensures.objects c.change.ensures.accepted (λ v ok same changes scn log e s f at is.
     let db = database log in
-    let old : Known = record { transactions = c.self.inside.transactions; objects = c.self.inside.objects } in
-    let t : StandsFor old log = subst (λ (k : Known). StandsFor k log) (sym c.self.view_is) s in
-    let new : Known = record old { transactions = c.change.new.self } in
+    let new = c.change.new.self in
     let addr = c.in-Ok.found.0 in
     let definition = c.in-Ok.found.1.now in
-    let p : IsPlaced db c.args.txn c.args.obj c.args.block c.args.slot addr definition = c.in-Ok.ensures log s in
-    let flag = placed_flag db c.args.txn c.args.obj c.args.block c.args.slot addr definition p in
-    let tracks = subst (λ (a : Place). TracksIn new.transactions (with_change db c.args.txn (record { at = a; row = None }))) p.at (c.in_ok-change.ensures.ok db None t.transactions p.running flag) in
-    takes_up_transaction old new log e _ t f is (passes_placed db c.args.txn c.args.obj c.args.block c.args.slot addr definition p (λ table. None)) (λ obj. refl) (λ obj. refl) refl tracks
+    let p : IsPlaced db c.args.obj c.args.block c.args.slot addr definition = c.in-Ok.ensures log s in
+    let answer = subst (λ (r : Result (Unit {0}) RedoRefused). IsAnswer r (demand (is_running db c.args.txn) TxnUnknown None)) ok (c.change.ensures.answer log s) in
+    let run : is_running db c.args.txn ≡ true = is_met (is_running db c.args.txn) TxnUnknown answer in
+    let passes = passes_placed db c.args.txn c.args.obj c.args.block c.args.slot addr definition p (λ table. None) ∙ ap (λ (b : Bool). demand b TxnUnknown None) run in
+    let flag = placed_flag db c.args.obj c.args.block c.args.slot addr definition p in
+    let tracks = subst (λ (a : Place). TracksIn new.transactions (with_change db c.args.txn (record { at = a; row = None }))) p.at (changes log None s flag) in
+    takes_up_transaction c.args.self.now new log e _ s f is passes (λ obj. refl) (λ obj. refl) same tracks)

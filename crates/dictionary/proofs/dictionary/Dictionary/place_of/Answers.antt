@@ -11,4 +11,4 @@ returns-in-Some-address_in c log s =
     let old : Known = record { transactions = c.self.inside.transactions; objects = c.self.inside.objects } in
     let t : StandsFor old log = subst (λ (k : Known). StandsFor k log) (sym c.self.view_is) s in
     let defined : AreDefined c.args.obj (db.tables c.args.obj) (Some c.in-Some.definition.now) = subst (AreDefined c.args.obj (db.tables c.args.obj)) (sym c.in-Some.ensures) (t.objects.described c.args.obj).latest in
-    placed db c.args.txn c.args.obj c.args.block c.args.slot c.in-Some-address_in.addr c.in-Some.definition.now (sym (c.if-not-is_running.ensures db t.transactions)) defined (c.in-Some-address_in.ensures c.args.obj)
+    placed db c.args.obj c.args.block c.args.slot c.in-Some-address_in.addr c.in-Some.definition.now defined (c.in-Some-address_in.ensures c.args.obj)

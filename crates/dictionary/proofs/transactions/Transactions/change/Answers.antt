@@ -19,6 +19,16 @@ returns-in_err-is_new-clause-err c =
     let kept : (c.get_mut.follows.lender was).entries ≡ inside = lent.0 ∙ set_value_same (nat_eq c.args.txn) inside was (sym c.in-Some.ensures.value) in
     on_err_always c.from_residual.result _ (ap₂ (λ (r : List (ℕ × Running)) (p : List (Change × Pending)). let h : Held = record { ended = c.self.inside.ended.keys; running = r; pending = p } in h) kept c.in_err-is_new.ensures.err ∙ c.self.view_is)
 
+pub returns-in_default-clause-running : goal.returns-in_default-clause-running
+returns-in_default-clause-running c db h =
+    let t : TracksIn (record { ended = c.self.inside.ended.keys; running = c.self.inside.running.entries; pending = c.self.inside.pending }) db = subst (λ (x : Held). TracksIn x db) (sym c.self.view_is) h in
+    ap is_some c.in_default.ensures.value ∙ t.running c.args.txn
+
+pub returns-clause-running : goal.returns-clause-running
+returns-clause-running c db h =
+    let t : TracksIn (record { ended = c.self.inside.ended.keys; running = c.self.inside.running.entries; pending = c.self.inside.pending }) db = subst (λ (x : Held). TracksIn x db) (sym c.self.view_is) h in
+    ap is_some c.in-Some.ensures.value ∙ t.running c.args.txn
+
 pub returns-clause-ok : goal.returns-clause-ok
 returns-clause-ok c db row h run in_memory =
     let old : Held = record { ended = c.self.inside.ended.keys; running = c.self.inside.running.entries; pending = c.self.inside.pending } in
