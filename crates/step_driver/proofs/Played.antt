@@ -22,8 +22,8 @@ use Rattle.turn_rules.proofs.Driving.{plays_more, number_inside, number_behind}
 use Rattle.step_driver.specs.declared.seats.Seats.{Seats}
 use Rattle.step_driver.specs.Seating.{seats_shown, is_waiting}
 use Rattle.step_driver.specs.Work.{work_left}
-use Rattle.step_driver.specs.Rounds.{ShowsRound, IsTurnOf, HasTurned, RestsAt, RestsOrActs, RestOrAct, HasPlayed, HasPlayedOn, HasPlayedTo, IsBehind, HasPlayedBehind, HasStopped}
-use Rattle.step_driver.specs.Alone.{HasCycled}
+use Rattle.step_driver.specs.Rounds.{ShowsRound, IsTurnOf, HasTurned, RestsAt, RestsOrActs, RestOrAct, HasPlayed, HasPlayedOn, HasPlayedTo, HasPlayedCycles, IsBehind, HasPlayedBehind, HasStopped}
+use Rattle.step_driver.specs.Waiting.{HasCycled}
 
 -- no turns
 pub played_none : (known : Known) (core : Core) (seats : Seats) (schedule : List ℕ) (r : Round) → ShowsRound known core seats r → HasPlayedOn known core seats schedule r r.turns
@@ -41,6 +41,10 @@ played_more known old core was seats schedule r turns p t = record {
   };
   count = ap (λ (x : Round). x.turns) t.turn.effect ∙ ap (λ n. n + 1) p.count;
 }
+
+-- the same number of turns
+abbrev pub counted : {known : Known} {core : Core} {seats : Seats} {schedule : List ℕ} {r : Round} {here there : ℕ} → here ≡ there → HasPlayedOn known core seats schedule r here → HasPlayedOn known core seats schedule r there
+counted same p = record { played = p.played; count = p.count ∙ same }
 
 -- turns behind turns
 pub plays_append : (schedule : List ℕ) (r : Round) (xs : List (Option Move)) (mid : Round) (ys : List (Option Move)) (last : Round) → Plays schedule r xs mid → Plays schedule mid ys last → Plays schedule r (xs ++ ys) last
@@ -136,34 +140,41 @@ same_over known core seats r q s t =
     sym (over_now known core seats r core.query core.frontier s s.core.shows.query s.core.shows.frontier) ∙ over_now known core seats q core.query core.frontier t t.core.shows.query t.core.shows.frontier
 
 -- Where so many actors rested before one more has had its turn.
-pub rest_or_act : (known : Known) (first old core : Core) (begin was seats : Seats) (count : ℕ) → RestOrAct known first begin old was count → RestsOrActs known old was core seats count
-    → RestOrAct known first begin core seats (count + 1)
-rest_or_act known first old core begin was seats count (inr less) (inr more) = inr (omega arith)
-rest_or_act known first old core begin was seats count (inr less) (inl rest) = inr (subst (λ (x : Core). work_left x seats < work_left first begin) (sym rest.core) (subst (λ (x : Seats). work_left old x < work_left first begin) (sym rest.seats) less))
-rest_or_act known first old core begin was seats count (inl rest) (inr less) = inr (subst (λ (x : Core). work_left core seats < work_left x begin) rest.core (subst (λ (x : Seats). work_left core seats < work_left old x) rest.seats less))
-rest_or_act known first old core begin was seats count (inl rest) (inl more) = inl (record {
+pub rest_or_act : (known : Known) (first old core : Core) (begin was seats : Seats) (from count : ℕ) → RestOrAct known first begin old was from count → RestsOrActs known old was core seats count
+    → RestOrAct known first begin core seats from (count + 1)
+rest_or_act known first old core begin was seats from count (inr less) (inr more) = inr (omega arith)
+rest_or_act known first old core begin was seats from count (inr less) (inl rest) = inr (subst (λ (x : Core). work_left x seats < work_left first begin) (sym rest.core) (subst (λ (x : Seats). work_left old x < work_left first begin) (sym rest.seats) less))
+rest_or_act known first old core begin was seats from count (inl rest) (inr less) = inr (subst (λ (x : Core). work_left core seats < work_left x begin) rest.core (subst (λ (x : Seats). work_left core seats < work_left old x) rest.seats less))
+rest_or_act known first old core begin was seats from count (inl rest) (inl more) = inl (record {
   core = more.core ∙ rest.core;
   seats = more.seats ∙ rest.seats;
-  rest = λ number h. by_number number (cases_lt number count) h;
+  rest = λ number f h. by_number number f (cases_lt number count) h;
 })
   where
     at_old : RestsAt known first begin count
     at_old = subst (λ (x : Core). RestsAt known x begin count) rest.core (subst (λ (x : Seats). RestsAt known old x count) rest.seats more.rests)
 
-    by_number : (number : ℕ) → (number < count) ⊎ (count ≤ number) → number < count + 1 → RestsAt known first begin number
-    by_number number (inl l) h = rest.rest number l
-    by_number number (inr l) h = let same : count ≡ number = omega arith in subst (RestsAt known first begin) same at_old
+    by_number : (number : ℕ) → from ≤ number → (number < count) ⊎ (count ≤ number) → number < count + 1 → RestsAt known first begin number
+    by_number number f (inl l) h = rest.rest number f l
+    by_number number f (inr l) h = let same : count ≡ number = omega arith in subst (RestsAt known first begin) same at_old
+
+-- no more is left to do
+pub no_more_left : (known : Known) (first core : Core) (begin seats : Seats) (from count : ℕ) → RestOrAct known first begin core seats from count → work_left core seats ≤ work_left first begin
+no_more_left known first core begin seats from count (inr less) = omega arith
+no_more_left known first core begin seats from count (inl rest) =
+    let same : work_left core seats ≡ work_left first begin = ap (λ (x : Core). work_left x seats) rest.core ∙ ap (λ (x : Seats). work_left first x) rest.seats in
+    omega arith
 
 -- Where all rested the round was over.
-pub acted : (known : Known) (first core : Core) (begin seats : Seats) (r : Round) → ShowsRound known first begin r → is_over r ≡ false → RestOrAct known first begin core seats (actors r) → work_left core seats < work_left first begin
+pub acted : (known : Known) (first core : Core) (begin seats : Seats) (r : Round) → ShowsRound known first begin r → is_over r ≡ false → RestOrAct known first begin core seats 0 (actors r) → work_left core seats < work_left first begin
 acted known first core begin seats r s goes_on (inr less) = less
-acted known first core begin seats r s goes_on (inl rest) = absurd (true≢false (sym (nobody_waits r s.stands (λ number h. rest.rest number h r s)) ∙ goes_on))
+acted known first core begin seats r s goes_on (inl rest) = absurd (true≢false (sym (nobody_waits r s.stands (λ number h. rest.rest number (omega arith) h r s)) ∙ goes_on))
 
 -- Where the round is over now somebody acted, if it was not over before.
-pub acted_till_over : (known : Known) (first core : Core) (begin seats : Seats) (r last : Round) (count : ℕ) → ShowsRound known first begin r → is_over r ≡ false → ShowsRound known core seats last → is_over last ≡ true
-    → RestOrAct known first begin core seats count → work_left core seats < work_left first begin
-acted_till_over known first core begin seats r last count s goes_on t over (inr less) = less
-acted_till_over known first core begin seats r last count s goes_on t over (inl rest) =
+pub acted_till_over : (known : Known) (first core : Core) (begin seats : Seats) (r last : Round) (from count : ℕ) → ShowsRound known first begin r → is_over r ≡ false → ShowsRound known core seats last → is_over last ≡ true
+    → RestOrAct known first begin core seats from count → work_left core seats < work_left first begin
+acted_till_over known first core begin seats r last from count s goes_on t over (inr less) = less
+acted_till_over known first core begin seats r last from count s goes_on t over (inl rest) =
     let again : ShowsRound known first begin last = subst (λ (x : Core). ShowsRound known x begin last) rest.core (subst (λ (x : Seats). ShowsRound known core x last) rest.seats t) in
     absurd (true≢false (sym over ∙ same_over known first begin last r again s ∙ goes_on))
 
@@ -182,7 +193,7 @@ cycle_more k a =
     omega arith
 
 pub cycled : (known : Known) (old core : Core) (was seats : Seats) (schedule : List ℕ) (r : Round) → RoundIs r → (p : HasPlayedBehind known old was schedule r) → is_over p.played.last ≡ false
-    → ((k : ℕ) → p.played.last.turns ≡ length schedule + k * actors p.played.last → (m : ℕ) × HasPlayedTo known core seats schedule p.played.last (length schedule + (m + 1) * actors p.played.last))
+    → ((k : ℕ) → p.played.last.turns ≡ length schedule + k * actors p.played.last → HasPlayedCycles known core seats schedule p.played.last)
     → HasPlayedBehind known core seats schedule r
 cycled known old core was seats schedule r is p goes_on cycle = by_place p.behind
   where
@@ -206,16 +217,16 @@ pub cycle_of : (schedule : List ℕ) (r : Round) → IsBehind schedule r → is_
 cycle_of schedule r (inl over) goes_on = absurd (true≢false (sym over ∙ goes_on))
 cycle_of schedule r (inr q) goes_on = q
 
--- whole cycles, and one more
-pub cycled_twice : (known : Known) (old mid core : Core) (was between seats : Seats) (schedule : List ℕ) (r : Round) (k : ℕ) → RoundIs r → (h : HasCycled known mid between schedule r k)
-    → ((j : ℕ) → h.on.played.last.turns ≡ length schedule + j * actors h.on.played.last → HasPlayedTo known core seats schedule h.on.played.last (length schedule + (j + 1) * actors h.on.played.last))
-    → (m : ℕ) × HasPlayedTo known core seats schedule r (length schedule + (m + 1) * actors r)
-cycled_twice known old mid core was between seats schedule r k is h cycle =
+-- turns of a cycle, and the rest of it
+pub cycled_on : (known : Known) (old core : Core) (was seats : Seats) (schedule : List ℕ) (r : Round) (k : ℕ) → RoundIs r → (h : HasCycled known old was schedule r k)
+    → ((j : ℕ) → h.on.played.last.turns ≡ length schedule + j * actors h.on.played.last + 1 → HasPlayedTo known core seats schedule h.on.played.last (length schedule + (j + 1) * actors h.on.played.last))
+    → HasPlayedCycles known core seats schedule r
+cycled_on known old core was seats schedule r k is h behind =
     let p = h.on.played in
     let count : actors p.last ≡ actors r = actors_stay schedule r p.turns p.last is p.plays in
-    let t = cycle (k + h.cycles) (h.on.count ∙ ap (λ a. length schedule + (k + h.cycles) * a) (sym count)) in (
+    let t = behind (k + h.cycles) (h.on.count ∙ ap (λ a. length schedule + (k + h.cycles) * a + 1) (sym count)) in (
       k + h.cycles,
-      record { played = played_append known mid core between seats schedule r p t.played; end = by_end t.played.last t.end (ap (λ a. length schedule + (k + h.cycles + 1) * a) count) },
+      record { played = played_append known old core was seats schedule r p t.played; end = by_end t.played.last t.end (ap (λ a. length schedule + (k + h.cycles + 1) * a) count) },
     )
   where
     by_end : (last : Round) {there here : ℕ} → (is_over last ≡ true) ⊎ (last.turns ≡ there) → there ≡ here → (is_over last ≡ true) ⊎ (last.turns ≡ here)

@@ -2,5 +2,5 @@ pub mod Acts
 pub mod Seating
 pub mod Work
 pub mod Rounds
-pub mod Alone
+pub mod Waiting
 pub mod Delivered

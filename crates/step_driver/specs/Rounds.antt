@@ -1,5 +1,5 @@
 -- The round that a core and the seats of a driver show, and what turns make of it.
-use Rattle.std.specs.Prelude.{◌≡◌, ℕ, ◌+◌, ◌*◌, ◌^◌, ◌<◌, true, false, List, length, Option, ◌⊎◌}
+use Rattle.std.specs.Prelude.{◌≡◌, ℕ, ◌+◌, ◌*◌, ◌^◌, ◌<◌, ◌≤◌, true, false, List, length, Option, ◌⊎◌}
 use Rattle.std.specs.List.{AllByRecursion}
 use Rattle.dictionary.specs.Standing.{Known, StandsFor}
 use Rattle.core_rules.specs.State.{CoreState}
@@ -47,6 +47,9 @@ pub record IsActorOf (number : ℕ) (r : Round) : Type 0 where
 abbrev pub IsActor : Known → Core → Seats → ℕ → Type 0
 IsActor known core seats number = (r : Round) → ShowsRound known core seats r → IsActorOf number r
 
+abbrev pub IsWithin : Known → Core → Seats → ℕ → Type 0
+IsWithin known core seats number = (r : Round) → ShowsRound known core seats r → number < actors r
+
 -- an actor is the one of this number in each round that is shown
 abbrev pub IsNamed : Known → Core → Seats → ℕ → Actor → Type 0
 IsNamed known core seats number actor = (r : Round) → ShowsRound known core seats r → actor ≡ actor_of (length r.core.workers) number
@@ -76,18 +79,18 @@ pub record HasRested (known : Known) (old : Core) (was : Seats) (new : Core) (ro
   pub seats : row ≡ was
   pub rests : RestsAt known old was number
 
--- the first actors rested, so many of them, and nothing changed
-pub record HaveRested (known : Known) (old : Core) (was : Seats) (new : Core) (row : Seats) (count : ℕ) : Type 0 where
+-- the actors of some numbers rested, and nothing changed
+pub record HaveRested (known : Known) (old : Core) (was : Seats) (new : Core) (row : Seats) (from to : ℕ) : Type 0 where
   pub core : new ≡ old
   pub seats : row ≡ was
-  pub rest : (number : ℕ) → number < count → RestsAt known old was number
+  pub rest : (number : ℕ) → from ≤ number → number < to → RestsAt known old was number
 
 -- it rested, or less is left to do
 abbrev pub RestsOrActs : Known → Core → Seats → Core → Seats → ℕ → Type 0
 RestsOrActs known old was new seats number = HasRested known old was new seats number ⊎ (work_left new seats < work_left old was)
 
-abbrev pub RestOrAct : Known → Core → Seats → Core → Seats → ℕ → Type 0
-RestOrAct known old was new seats count = HaveRested known old was new seats count ⊎ (work_left new seats < work_left old was)
+abbrev pub RestOrAct : Known → Core → Seats → Core → Seats → (from to : ℕ) → Type 0
+RestOrAct known old was new seats from to = HaveRested known old was new seats from to ⊎ (work_left new seats < work_left old was)
 
 -- turns were taken in a round, one after another
 pub record HasPlayed (known : Known) (core : Core) (seats : Seats) (schedule : List ℕ) (r : Round) : Type 0 where
@@ -113,6 +116,10 @@ IsBehind schedule r = (is_over r ≡ true) ⊎ ((k : ℕ) × (r.turns ≡ length
 pub record HasPlayedBehind (known : Known) (core : Core) (seats : Seats) (schedule : List ℕ) (r : Round) : Type 0 where
   pub played : HasPlayed known core seats schedule r
   pub behind : IsBehind schedule played.last
+
+-- turns were taken to the end of a cycle, at least one of all actors; or the round was over before
+abbrev pub HasPlayedCycles : Known → Core → Seats → List ℕ → Round → Type 0
+HasPlayedCycles known core seats schedule r = (k : ℕ) × HasPlayedTo known core seats schedule r (length schedule + (k + 1) * actors r)
 
 -- turns were taken until the round was over
 pub record HasEnded (known : Known) (core : Core) (seats : Seats) (schedule : List ℕ) (r : Round) : Type 0 where

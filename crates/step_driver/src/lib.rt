@@ -3,7 +3,6 @@
 #![tactic(auto)]
 
 pub mod act;
-mod alone;
 mod crew;
 pub mod delivery;
 pub mod request;
@@ -12,5 +11,6 @@ pub mod seat;
 pub mod seats;
 mod session;
 mod turn;
+mod waiting;
 
 pub use delivery::run_delivery;

@@ -1,13 +1,13 @@
-ghost use Rattle.std.specs.Prelude.{◌≡◌, ℕ, ◌+◌, ◌*◌, ◌<◌, List, length, OnOk, OnErr};
+ghost use Rattle.std.specs.Prelude.{◌≡◌, ℕ, ◌+◌, ◌*◌, ◌<◌, ◌≤◌, List, length, OnOk, OnErr};
 ghost use Rattle.dictionary.specs.Standing.{Known};
 ghost use Rattle.turn_rules.specs.Round.{Round, actors as actors_of, is_over};
 ghost use Rattle.step_driver.specs.declared.seats.Seats.{Seats as Row};
 ghost use Rattle.step_driver.specs.Work.{work_left};
-ghost use Rattle.step_driver.specs.Rounds.{ShowsRound, HasRound, AreActors, GoesOn, HasPlayedTo, IsBehind, HasEnded, HasStopped};
+ghost use Rattle.step_driver.specs.Rounds.{ShowsRound, HasRound, AreActors, GoesOn, HasPlayedTo, HasPlayedCycles, IsBehind, HasEnded, HasStopped};
 
-use crate::alone::play_alone;
 use crate::seats::Seats;
 use crate::turn::take_turn;
+use crate::waiting::{all_wait, play_crew};
 use adg_base::memory::Memory;
 use dictionary::Dictionary;
 use standby_core::Core;
@@ -78,14 +78,13 @@ fn play_on(
     ensures err { OnErr result ((r : Round) → ShowsRound dictionary.now core.old seats.old r → HasStopped core.new r.core) }
 {
     while !is_over(core, seats) {
-        play_alone(core, seats, dictionary)?;
-        play_cycle(alloc, core, seats, dictionary)?;
+        play_cycles(alloc, core, seats, dictionary)?;
     }
     Ok(())
 }
 
-/// One turn of each actor, unless the round is over before.
-fn play_cycle(
+/// Turns to the end of a cycle, one of each actor or more, unless the round is over before.
+fn play_cycles(
     alloc: Global,
     core: &mut Core,
     seats: &mut Seats,
@@ -93,11 +92,35 @@ fn play_cycle(
 ) -> Result<(), Memory>
     requires { GoesOn dictionary.now core.old seats.old }
     ensures turns { OnOk result ((schedule : List ℕ) (r : Round) (k : ℕ) → ShowsRound dictionary.now core.old seats.old r → r.turns ≡ length schedule + k * actors_of r
-        → HasPlayedTo dictionary.now core.new seats.new schedule r (length schedule + (k + 1) * actors_of r)) }
+        → HasPlayedCycles dictionary.now core.new seats.new schedule r) }
     ensures less { OnOk result (work_left core.new seats.new < work_left core.old seats.old) }
     ensures err { OnErr result ((r : Round) → ShowsRound dictionary.now core.old seats.old r → HasStopped core.new r.core) }
 {
-    for number in 0..actors(core) {
+    if all_wait(core, seats) {
+        play_crew(core, seats, dictionary)?;
+        play_from(alloc, core, seats, 1, dictionary)
+    } else {
+        play_from(alloc, core, seats, 0, dictionary)
+    }
+}
+
+/// One turn of each actor from the first or the second on, unless the round is over before.
+fn play_from(
+    alloc: Global,
+    core: &mut Core,
+    seats: &mut Seats,
+    first: usize,
+    dictionary: &Dictionary,
+) -> Result<(), Memory>
+    requires round { HasRound dictionary.now core.old seats.old }
+    requires first { first ≤ 1 }
+    ensures turns { OnOk result ((schedule : List ℕ) (r : Round) (k : ℕ) → ShowsRound dictionary.now core.old seats.old r → r.turns ≡ length schedule + k * actors_of r + first
+        → HasPlayedTo dictionary.now core.new seats.new schedule r (length schedule + (k + 1) * actors_of r)) }
+    ensures left { OnOk result (work_left core.new seats.new ≤ work_left core.old seats.old) }
+    ensures less { OnOk result (first ≡ 0 → GoesOn dictionary.now core.old seats.old → work_left core.new seats.new < work_left core.old seats.old) }
+    ensures err { OnErr result ((r : Round) → ShowsRound dictionary.now core.old seats.old r → HasStopped core.new r.core) }
+{
+    for number in first..actors(core) {
         if is_over(core, seats) {
             return Ok(());
         }

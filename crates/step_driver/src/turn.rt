@@ -7,7 +7,7 @@ ghost use Rattle.turn_rules.specs.Turns.{seats_after, is_abort_told};
 ghost use Rattle.standby_core.specs.Shows.{IsState, HasState};
 ghost use Rattle.step_driver.specs.Acts.{act_shown, actor_shown, crew_shown, HasTaken, HasActed};
 ghost use Rattle.step_driver.specs.Seating.{seats_shown, IsCounted};
-ghost use Rattle.step_driver.specs.Rounds.{ShowsRound, GoesOn, IsActor, IsNamed, IsPicked, IsTurnOf, HasTurned, RestsOrActs, HasStopped};
+ghost use Rattle.step_driver.specs.Rounds.{ShowsRound, GoesOn, IsActor, IsWithin, IsNamed, IsPicked, IsTurnOf, HasTurned, RestsOrActs, HasStopped};
 
 use crate::act::{Act, Actor};
 use crate::crew::{coordinator, worker};
@@ -69,7 +69,7 @@ fn pick(alloc: Global, core: &Core, seats: &Seats, place: u8) -> Result<Act, Mem
 
 /// Whether the session at a place rests and a look tells so: no request is at hand, or a SYNC that waits.
 /// Most turns of sessions are such.
-pub(crate) fn waits(core: &Core, seats: &Seats, place: u8) -> bool
+fn waits(core: &Core, seats: &Seats, place: u8) -> bool
     ensures { result ≡ true → (known : Known) (r : Round) → ShowsRound known core.now seats.now r → Rests ≡ act_of r (SessionAt place) }
 {
     match seats.at_hand(place) {
@@ -108,7 +108,7 @@ pub(crate) fn take_crew_turn(
     dictionary: &Dictionary,
 ) -> Result<(), Memory>
     requires round { GoesOn dictionary.now core.old seats.now }
-    requires actor { IsActor dictionary.now core.old seats.now number }
+    requires actor { IsWithin dictionary.now core.old seats.now number }
     requires picked { IsPicked dictionary.now core.old seats.now number (crew_shown event) }
     ensures turns { OnOk result ((schedule : List ℕ) (r : Round) → ShowsRound dictionary.now core.old seats.now r → IsTurnOf schedule r number → HasTurned dictionary.now core.new seats.now schedule r) }
     ensures acts { OnOk result (RestsOrActs dictionary.now core.old seats.now core.new seats.now number) }

@@ -46,7 +46,7 @@ returns c =
       turns = λ schedule r s turn. turned known core new seats seats schedule r number None s (goes_on r s) turn (acted r s) (untold r) s.counted (or_none seats.aborted);
       acts =
           let s = c.requires.round.shows in
-          let within : number < actors w = (c.requires.actor w s).within in
+          let within : number < actors w = c.requires.actor w s in
           let q : Round = record w { turns = 0 } in
           let t = shows_again known core seats w 0 s in
           inr (less_left known core new seats seats w number s within (λ e. let k : Makes event ≡ Rests = picked w s ∙ e in absurd cc)

@@ -3,15 +3,14 @@ use Rattle.standby_core.proofs.Exits.{at_err}
 use Rattle.turn_rules.specs.Round.{Round, actors}
 use Rattle.step_driver.specs.Rounds.{HasPlayedOn, RestOrAct, IsTurnOf}
 use Rattle.step_driver.proofs.Turned.{shows_again}
-use Rattle.step_driver.proofs.Played.{played_none, played_more, stopped_behind, turn_behind, actors_stay, seats_stay, same_actors, cycle_more, rest_or_act, acted}
-use Rattle.step_driver.proofs.round.play_cycle.Goals as goal
+use Rattle.step_driver.proofs.Played.{played_none, played_more, stopped_behind, turn_behind, actors_stay, seats_stay, same_actors, cycle_more, rest_or_act, no_more_left, acted, acted_till_over}
+use Rattle.step_driver.proofs.round.play_from.Goals as goal
 
 pub loop-number-init : goal.loop-number-init
 loop-number-init c = record {
   played = λ schedule r k s e.
-      let more : length schedule + k * actors r ≡ length schedule + k * actors r + 0 = omega arith in
-      subst (HasPlayedOn c.args.dictionary.now c.args.core.now c.args.seats.now schedule r) (e ∙ more) (played_none c.args.dictionary.now c.args.core.now c.args.seats.now schedule r s);
-  acted = inl (record { core = refl; seats = refl; rest = λ number h. absurd (omega arith) });
+      subst (HasPlayedOn c.args.dictionary.now c.args.core.now c.args.seats.now schedule r) e (played_none c.args.dictionary.now c.args.core.now c.args.seats.now schedule r s);
+  acted = inl (record { core = refl; seats = refl; rest = λ number f h. absurd (omega arith) });
 }
 
 pub returns-then-is_over-clause-turns : goal.returns-then-is_over-clause-turns
@@ -22,17 +21,19 @@ returns-then-is_over-clause-turns c schedule r k s e =
 pub take_turn-requires-clause-round : goal.take_turn-requires-clause-round
 take_turn-requires-clause-round c =
     let known = c.args.dictionary.now in
-    let q : Round = record c.requires.round { turns = 0 } in
-    let none : 0 ≡ 0 + 0 * actors q = omega arith in
-    let p = c.loop-number.invariant.played [] q 0 (shows_again known c.args.core.now c.args.seats.now c.requires.round 0 c.requires.shows) none in
+    let w = c.requires.round.round in
+    let q : Round = record w { turns = c.args.first } in
+    let none : c.args.first ≡ 0 + 0 * actors q + c.args.first = omega arith in
+    let p = c.loop-number.invariant.played [] q 0 (shows_again known c.args.core.now c.args.seats.now w c.args.first c.requires.round.shows) none in
     record { round = p.played.last; shows = p.played.shows; goes_on = sym (c.if-is_over.ensures known p.played.last p.played.shows) }
 
 pub take_turn-requires-clause-actor : goal.take_turn-requires-clause-actor
 take_turn-requires-clause-actor c r s =
     let known = c.args.dictionary.now in
-    let q : Round = record c.requires.round { turns = 0 } in
-    let t = shows_again known c.args.core.now c.args.seats.now c.requires.round 0 c.requires.shows in
-    let none : 0 ≡ 0 + 0 * actors q = omega arith in
+    let w = c.requires.round.round in
+    let q : Round = record w { turns = c.args.first } in
+    let t = shows_again known c.args.core.now c.args.seats.now w c.args.first c.requires.round.shows in
+    let none : c.args.first ≡ 0 + 0 * actors q + c.args.first = omega arith in
     let p = c.loop-number.invariant.played [] q 0 t none in
     let a = c.actors-number-end.ensures known c.args.seats.now q t in
     let count : c.actors-number-end.result ≡ actors q = a.is in
@@ -45,9 +46,9 @@ take_turn-requires-clause-actor c r s =
 pub returns-in_err-take_turn-clause-err : goal.returns-in_err-take_turn-clause-err
 returns-in_err-take_turn-clause-err c = at_err c.from_residual.result (λ r s.
     let known = c.args.dictionary.now in
-    let q : Round = record r { turns = 0 } in
-    let t = shows_again known c.args.core.now c.args.seats.now r 0 s in
-    let none : 0 ≡ 0 + 0 * actors q = omega arith in
+    let q : Round = record r { turns = c.args.first } in
+    let t = shows_again known c.args.core.now c.args.seats.now r c.args.first s in
+    let none : c.args.first ≡ 0 + 0 * actors q + c.args.first = omega arith in
     let p = c.loop-number.invariant.played [] q 0 t none in
     stopped_behind known c.loop-number.core c.take_turn.new.core c.loop-number.seats [] q t.stands p.played (c.in_err-take_turn.ensures.err p.played.last p.played.shows))
 
@@ -68,7 +69,7 @@ loop-number-preserved c =
           subst (HasPlayedOn known c.take_turn.new.core c.take_turn.new.seats schedule r) next
           (played_more known c.loop-number.core c.take_turn.new.core c.loop-number.seats c.take_turn.new.seats schedule r (length schedule + k * actors r + number) p
           (c.in_ok-take_turn.ensures.turns schedule p.played.last p.played.shows turn));
-      acted = rest_or_act known c.args.core.now c.loop-number.core c.take_turn.new.core c.args.seats.now c.loop-number.seats c.take_turn.new.seats number c.loop-number.invariant.acted c.in_ok-take_turn.ensures.acts;
+      acted = rest_or_act known c.args.core.now c.loop-number.core c.take_turn.new.core c.args.seats.now c.loop-number.seats c.take_turn.new.seats c.args.first number c.loop-number.invariant.acted c.in_ok-take_turn.ensures.acts;
     }
 
 pub returns-clause-turns : goal.returns-clause-turns
@@ -78,18 +79,37 @@ returns-clause-turns c schedule r k s e =
     let a = c.actors-number-end.ensures known c.args.seats.now r s in
     let count : c.actors-number-end.result ≡ actors r = a.is in
     let over : c.actors-number-end.result ≤ c.loop-number.number = c.loop-number-test.false in
-    let within : c.loop-number.number ≤ c.actors-number-end.result = c.loop-number.auto.number-end in
+    let first : c.args.first ≤ 1 = c.requires.first in
+    let within : c.loop-number.number ≤ c.actors-number-end.result = c.loop-number.auto.number-end (omega arith) in
     let more : k * actors r + actors r ≡ (k + 1) * actors r = cycle_more k (actors r) in
     let all : length schedule + k * actors r + c.loop-number.number ≡ length schedule + (k + 1) * actors r = omega arith in
     record { played = p.played; end = inr (p.count ∙ all) }
 
 pub returns-clause-less : goal.returns-clause-less
-returns-clause-less c =
+returns-clause-less c none g =
     let known = c.args.dictionary.now in
-    let a = c.actors-number-end.ensures known c.args.seats.now c.requires.round c.requires.shows in
-    let count : c.actors-number-end.result ≡ actors c.requires.round = a.is in
+    let a = c.actors-number-end.ensures known c.args.seats.now g.round g.shows in
+    let count : c.actors-number-end.result ≡ actors g.round = a.is in
     let over : c.actors-number-end.result ≤ c.loop-number.number = c.loop-number-test.false in
-    let within : c.loop-number.number ≤ c.actors-number-end.result = c.loop-number.auto.number-end in
-    let all : c.loop-number.number ≡ actors c.requires.round = omega arith in
-    acted known c.args.core.now c.loop-number.core c.args.seats.now c.loop-number.seats c.requires.round c.requires.shows c.requires.goes_on
-    (subst (RestOrAct known c.args.core.now c.args.seats.now c.loop-number.core c.loop-number.seats) all c.loop-number.invariant.acted)
+    let first : c.args.first ≤ 1 = c.requires.first in
+    let within : c.loop-number.number ≤ c.actors-number-end.result = c.loop-number.auto.number-end (omega arith) in
+    let all : c.loop-number.number ≡ actors g.round = omega arith in
+    acted known c.args.core.now c.loop-number.core c.args.seats.now c.loop-number.seats g.round g.shows g.goes_on
+    (subst (λ n. RestOrAct known c.args.core.now c.args.seats.now c.loop-number.core c.loop-number.seats n (actors g.round)) none
+    (subst (RestOrAct known c.args.core.now c.args.seats.now c.loop-number.core c.loop-number.seats c.args.first) all c.loop-number.invariant.acted))
+
+pub returns-clause-left : goal.returns-clause-left
+returns-clause-left c = no_more_left c.args.dictionary.now c.args.core.now c.loop-number.core c.args.seats.now c.loop-number.seats c.args.first c.loop-number.number c.loop-number.invariant.acted
+
+pub returns-then-is_over-clause-left : goal.returns-then-is_over-clause-left
+returns-then-is_over-clause-left c = no_more_left c.args.dictionary.now c.args.core.now c.loop-number.core c.args.seats.now c.loop-number.seats c.args.first c.loop-number.number c.loop-number.invariant.acted
+
+pub returns-then-is_over-clause-less : goal.returns-then-is_over-clause-less
+returns-then-is_over-clause-less c none g =
+    let known = c.args.dictionary.now in
+    let q : Round = record g.round { turns = c.args.first } in
+    let t = shows_again known c.args.core.now c.args.seats.now g.round c.args.first g.shows in
+    let e : c.args.first ≡ 0 + 0 * actors q + c.args.first = omega arith in
+    let p = c.loop-number.invariant.played [] q 0 t e in
+    acted_till_over known c.args.core.now c.loop-number.core c.args.seats.now c.loop-number.seats g.round p.played.last c.args.first c.loop-number.number g.shows g.goes_on p.played.shows
+    (sym (c.if-is_over.ensures known p.played.last p.played.shows)) c.loop-number.invariant.acted
