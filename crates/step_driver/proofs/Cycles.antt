@@ -428,7 +428,7 @@ somebody_acts known core seats r s a coordinator workers = absurd (true≢false 
     all (suc n) h = behind n h (cases_lt n (length r.core.workers))
 
 -- whole cycles behind so many, and the coordinator's turn
-pub record HasBegun (known : Known) (core : Core) (seats : Seats) (schedule : List ℕ) (r : Round) (k : ℕ) (rests : Bool) : Type 0 where
+pub record HasCycledPast (known : Known) (core : Core) (seats : Seats) (schedule : List ℕ) (r : Round) (k : ℕ) (rests : Bool) : Type 0 where
   pub cycles : ℕ
   pub crew : HasPlayedCrew known core seats schedule r (length schedule + (k + cycles) * actors r + 1) rests
 
@@ -469,7 +469,7 @@ worker_picked r did place number h same is =
 -- the coordinator's turn behind whole cycles
 pub begun : (known : Known) (old core : Core) (seats : Seats) (schedule : List ℕ) (r : Round) (k : ℕ) (rests still : Bool) → RoundIs r → (h : HasCycledWhole known old seats schedule r k rests)
     → ((j : ℕ) → h.crew.on.played.last.turns ≡ length schedule + j * actors h.crew.on.played.last
-    → HasPlayedCrew known core seats schedule h.crew.on.played.last (length schedule + j * actors h.crew.on.played.last + 1) still) → HasBegun known core seats schedule r k still
+    → HasPlayedCrew known core seats schedule h.crew.on.played.last (length schedule + j * actors h.crew.on.played.last + 1) still) → HasCycledPast known core seats schedule r k still
 begun known old core seats schedule r k rests still is h takes =
     let p = h.crew.on.played in
     let count : actors p.last ≡ actors r = actors_stay schedule r p.turns p.last is p.plays in
@@ -483,7 +483,7 @@ begun known old core seats schedule r k rests still is h takes =
     }
 
 -- the rest of a cycle
-pub whole : (known : Known) (old core : Core) (seats : Seats) (schedule : List ℕ) (r : Round) (k : ℕ) (rests still : Bool) → RoundIs r → (h : HasBegun known old seats schedule r k rests)
+pub whole : (known : Known) (old core : Core) (seats : Seats) (schedule : List ℕ) (r : Round) (k : ℕ) (rests still : Bool) → RoundIs r → (h : HasCycledPast known old seats schedule r k rests)
     → ((j : ℕ) → h.crew.on.played.last.turns ≡ length schedule + j * actors h.crew.on.played.last + 1
     → HasPlayedCrew known core seats schedule h.crew.on.played.last (length schedule + (j + 1) * actors h.crew.on.played.last) still) → HasCycledWhole known core seats schedule r k still
 whole known old core seats schedule r k rests still is h takes =

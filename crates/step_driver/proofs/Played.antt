@@ -22,7 +22,7 @@ use Rattle.turn_rules.proofs.Driving.{plays_more, number_inside, number_behind}
 use Rattle.step_driver.specs.declared.seats.Seats.{Seats}
 use Rattle.step_driver.specs.Seating.{seats_shown, is_waiting}
 use Rattle.step_driver.specs.Work.{work_left}
-use Rattle.step_driver.specs.Rounds.{ShowsRound, IsTurnOf, HasTurned, RestsAt, RestsOrActs, RestOrAct, HasPlayed, HasPlayedOn, HasPlayedTo, HasPlayedCycles, IsBehind, HasPlayedBehind, HasStopped}
+use Rattle.step_driver.specs.Rounds.{ShowsRound, IsTurnOf, HasTurned, RestsAt, RestsOrActs, RestOrAct, HasPlayed, HasPlayedOn, HasPlayedTo, IsBehind, HasPlayedBehind, HasStopped}
 use Rattle.step_driver.specs.Waiting.{HasCycled}
 
 -- no turns
@@ -41,10 +41,6 @@ played_more known old core was seats schedule r turns p t = record {
   };
   count = ap (λ (x : Round). x.turns) t.turn.effect ∙ ap (λ n. n + 1) p.count;
 }
-
--- the same number of turns
-abbrev pub counted : {known : Known} {core : Core} {seats : Seats} {schedule : List ℕ} {r : Round} {here there : ℕ} → here ≡ there → HasPlayedOn known core seats schedule r here → HasPlayedOn known core seats schedule r there
-counted same p = record { played = p.played; count = p.count ∙ same }
 
 -- turns behind turns
 pub plays_append : (schedule : List ℕ) (r : Round) (xs : List (Option Move)) (mid : Round) (ys : List (Option Move)) (last : Round) → Plays schedule r xs mid → Plays schedule mid ys last → Plays schedule r (xs ++ ys) last
@@ -192,43 +188,32 @@ cycle_more k a =
     let one : a * 1 ≡ a = omega arith in
     omega arith
 
-pub cycled : (known : Known) (old core : Core) (was seats : Seats) (schedule : List ℕ) (r : Round) → RoundIs r → (p : HasPlayedBehind known old was schedule r) → is_over p.played.last ≡ false
-    → ((k : ℕ) → p.played.last.turns ≡ length schedule + k * actors p.played.last → HasPlayedCycles known core seats schedule p.played.last)
-    → HasPlayedBehind known core seats schedule r
-cycled known old core was seats schedule r is p goes_on cycle = by_place p.behind
+-- turns up to the end of a cycle
+pub cycle_ends : (known : Known) (core : Core) (seats : Seats) (schedule : List ℕ) (r : Round) (k : ℕ) → RoundIs r → HasPlayedTo known core seats schedule r (length schedule + (k + 1) * actors r) → HasPlayedBehind known core seats schedule r
+cycle_ends known core seats schedule r k is t = by_end t.end
   where
-    last : Round
-    last = p.played.last
+    by_end : (is_over t.played.last ≡ true) ⊎ (t.played.last.turns ≡ length schedule + (k + 1) * actors r) → HasPlayedBehind known core seats schedule r
+    by_end (inl over) = record { played = t.played; behind = inl over }
+    by_end (inr e) = record { played = t.played; behind = inr (k + 1, e ∙ ap (λ a. length schedule + (k + 1) * a) (sym (actors_stay schedule r t.played.turns t.played.last is t.played.plays))) }
 
-    by_end : (k : ℕ) (t : HasPlayedTo known core seats schedule last (length schedule + (k + 1) * actors last)) → (is_over t.played.last ≡ true) ⊎ (t.played.last.turns ≡ length schedule + (k + 1) * actors last)
-        → HasPlayedBehind known core seats schedule r
-    by_end k t (inl over) = record { played = played_append known old core was seats schedule r p.played t.played; behind = inl over }
-    by_end k t (inr e) = record {
-      played = played_append known old core was seats schedule r p.played t.played;
-      behind = inr (k + 1, e ∙ ap (λ a. length schedule + (k + 1) * a) (sym (actors_stay schedule last t.played.turns t.played.last p.played.shows.stands t.played.plays)));
-    }
-
-    by_place : (is_over last ≡ true) ⊎ ((k : ℕ) × (last.turns ≡ length schedule + k * actors last)) → HasPlayedBehind known core seats schedule r
+-- cycles behind cycles
+pub cycled : (known : Known) (old core : Core) (was seats : Seats) (schedule : List ℕ) (r : Round) → (p : HasPlayedBehind known old was schedule r) → is_over p.played.last ≡ false
+    → ((k : ℕ) → p.played.last.turns ≡ length schedule + k * actors p.played.last → HasPlayedBehind known core seats schedule p.played.last) → HasPlayedBehind known core seats schedule r
+cycled known old core was seats schedule r p goes_on cycle = by_place p.behind
+  where
+    by_place : IsBehind schedule p.played.last → HasPlayedBehind known core seats schedule r
     by_place (inl over) = absurd (true≢false (sym over ∙ goes_on))
-    by_place (inr q) = let t = cycle q.0 q.1 in by_end t.0 t.1 t.1.end
-
--- a round that goes on stands at the end of a cycle
-pub cycle_of : (schedule : List ℕ) (r : Round) → IsBehind schedule r → is_over r ≡ false → (k : ℕ) × (r.turns ≡ length schedule + k * actors r)
-cycle_of schedule r (inl over) goes_on = absurd (true≢false (sym over ∙ goes_on))
-cycle_of schedule r (inr q) goes_on = q
+    by_place (inr q) =
+        let t = cycle q.0 q.1 in
+        record { played = played_append known old core was seats schedule r p.played t.played; behind = t.behind }
 
 -- turns of a cycle, and the rest of it
 pub cycled_on : (known : Known) (old core : Core) (was seats : Seats) (schedule : List ℕ) (r : Round) (k : ℕ) → RoundIs r → (h : HasCycled known old was schedule r k)
     → ((j : ℕ) → h.on.played.last.turns ≡ length schedule + j * actors h.on.played.last + 1 → HasPlayedTo known core seats schedule h.on.played.last (length schedule + (j + 1) * actors h.on.played.last))
-    → HasPlayedCycles known core seats schedule r
+    → HasPlayedBehind known core seats schedule r
 cycled_on known old core was seats schedule r k is h behind =
     let p = h.on.played in
     let count : actors p.last ≡ actors r = actors_stay schedule r p.turns p.last is p.plays in
-    let t = behind (k + h.cycles) (h.on.count ∙ ap (λ a. length schedule + (k + h.cycles) * a + 1) (sym count)) in (
-      k + h.cycles,
-      record { played = played_append known old core was seats schedule r p t.played; end = by_end t.played.last t.end (ap (λ a. length schedule + (k + h.cycles + 1) * a) count) },
-    )
-  where
-    by_end : (last : Round) {there here : ℕ} → (is_over last ≡ true) ⊎ (last.turns ≡ there) → there ≡ here → (is_over last ≡ true) ⊎ (last.turns ≡ here)
-    by_end last (inl over) e = inl over
-    by_end last (inr turns) e = inr (turns ∙ e)
+    let t = behind (k + h.cycles) (h.on.count ∙ ap (λ a. length schedule + (k + h.cycles) * a + 1) (sym count)) in
+    let b = cycle_ends known core seats schedule p.last (k + h.cycles) p.shows.stands t in
+    record { played = played_append known old core was seats schedule r p b.played; behind = b.behind }

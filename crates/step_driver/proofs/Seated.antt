@@ -6,7 +6,7 @@ use Rattle.std.proofs.lemmas.Bool.{ne_eqb, eq-eqb}
 use Rattle.std.proofs.lemmas.List.{length-map, length-set}
 use Rattle.std.proofs.lemmas.List.Elements.{filter_map-append}
 use Rattle.std.proofs.lemmas.List.Sums.{sum_by-set, get_or-le-sum_by}
-use Rattle.std.proofs.lemmas.Option.{slice_get_past, get_or_from_slice_get}
+use Rattle.std.proofs.lemmas.Option.{get_or_from_slice_get}
 use Rattle.adg_base.specs.declared.command.CommandText.{CommandText}
 use Rattle.adg_base.specs.declared.answer.Reply.{Reply}
 use Rattle.adg_model.specs.Transcript.{text_of, texts_of}
@@ -92,17 +92,6 @@ text_of_seat seats command place was new request at session reads requests repli
     by_place before read n x (inr p) =
         read_other (n + 1) before command (seat_shown x) (λ e. let same : n ≡ place = omega (arith, session, e) in p.0 same) (read n x p.1)
 
--- seats without a request
-pub none_read : (seats : List OwnSeat) → ((n : ℕ) (x : OwnSeat) → At seats n x → (x.requests.items ≡ []) × (x.replies.items ≡ [])) → AreRead [] seats
-none_read seats empty place x h =
-    let e = empty place x h in
-    record { reads = subst (λ (rs : List OwnRequest). AllZip Reads [] (map request_shown rs)) (sym e.0) tt; unanswered = e.1 }
-
--- A seat with a reply more.
-pub told_one : (x y : OwnSeat) (reply : Reply) → y.requests.items ≡ x.requests.items → y.replies.items ≡ x.replies.items ++ reply ∷ [] → seat_shown y ≡ with_reply reply (seat_shown x)
-told_one x y reply requests replies =
-    ap (λ (rs : List OwnRequest). record { requests = map request_shown rs; replies = y.replies.items }) requests ∙ ap (λ (rs : List Reply). record { requests = map request_shown x.requests.items; replies = rs }) replies
-
 -- one where a test holds, and else none
 abbrev pub one_if : Bool → ℕ
 one_if b = cond b 1 0
@@ -143,12 +132,6 @@ pub told_seats : (seats : List OwnSeat) (place : ℕ) (was new : OwnSeat) (reply
 told_seats seats place was new reply h e =
     map_set seat_shown seats place new ∙ ap (slice_set (map seat_shown seats) place) e
     ∙ sym (ap (λ o. told_at place reply o (map seat_shown seats)) (at_map seat_shown seats place was h))
-
--- nobody is told where there is no seat
-pub told_none : (seats : List OwnSeat) (place : ℕ) (reply : Reply) → length seats ≤ place → map seat_shown seats ≡ told_at place reply (slice_get (map seat_shown seats) place) (map seat_shown seats)
-told_none seats place reply h =
-    let long : length (map seat_shown seats) ≡ length seats = length-map seats seat_shown in
-    sym (ap (λ o. told_at place reply o (map seat_shown seats)) (slice_get_past (map seat_shown seats) place (omega arith)))
 
 -- The lines of a session, one more; and of the seats, those of one more.
 pub session_lines_more : (session number : ℕ) (replies : List Reply) (reply : Reply)

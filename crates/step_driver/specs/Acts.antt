@@ -1,5 +1,5 @@
 -- What the acts and the actors of the driver are in the turn rule, and what an act makes of a core.
-use Rattle.std.specs.Prelude.{◌≡◌, ◌<◌, length, Option, Some, None}
+use Rattle.std.specs.Prelude.{◌≡◌, ◌<◌, Option, Some, None}
 use Rattle.adg_base.specs.declared.answer.Reply.{Reply}
 use Rattle.core_rules.specs.declared.event.Event.{Event}
 use Rattle.core_rules.specs.declared.event.CoreAnswer.{CoreAnswer}
@@ -39,12 +39,6 @@ abbrev pub actor_shown : Actor → rule.Actor
 actor_shown seat.Coordinator = rule.Coordinator
 actor_shown (seat.Worker worker) = rule.WorkerAt worker
 actor_shown (seat.Session place) = rule.SessionAt place
-
--- a worker is one of the core's
-abbrev pub IsThere : CoreState → rule.Actor → Type 0
-IsThere c rule.Coordinator = Unit {0}
-IsThere c (rule.WorkerAt worker) = worker < length c.workers
-IsThere c (rule.SessionAt place) = Unit {0}
 
 -- the core took an event, and showed a state from which it leads to one that it shows now; what it said is told
 pub record HasTaken (core : Core) (c : CoreState) (event : Event) (told : Option Reply) : Type 0 where

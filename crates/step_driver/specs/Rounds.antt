@@ -47,6 +47,7 @@ pub record IsActorOf (number : ℕ) (r : Round) : Type 0 where
 abbrev pub IsActor : Known → Core → Seats → ℕ → Type 0
 IsActor known core seats number = (r : Round) → ShowsRound known core seats r → IsActorOf number r
 
+-- a number is below that of the actors of each round that is shown
 abbrev pub IsWithin : Known → Core → Seats → ℕ → Type 0
 IsWithin known core seats number = (r : Round) → ShowsRound known core seats r → number < actors r
 
@@ -116,10 +117,6 @@ IsBehind schedule r = (is_over r ≡ true) ⊎ ((k : ℕ) × (r.turns ≡ length
 pub record HasPlayedBehind (known : Known) (core : Core) (seats : Seats) (schedule : List ℕ) (r : Round) : Type 0 where
   pub played : HasPlayed known core seats schedule r
   pub behind : IsBehind schedule played.last
-
--- turns were taken to the end of a cycle, at least one of all actors; or the round was over before
-abbrev pub HasPlayedCycles : Known → Core → Seats → List ℕ → Round → Type 0
-HasPlayedCycles known core seats schedule r = (k : ℕ) × HasPlayedTo known core seats schedule r (length schedule + (k + 1) * actors r)
 
 -- turns were taken until the round was over
 pub record HasEnded (known : Known) (core : Core) (seats : Seats) (schedule : List ℕ) (r : Round) : Type 0 where

@@ -3,7 +3,7 @@ ghost use Rattle.dictionary.specs.Standing.{Known};
 ghost use Rattle.turn_rules.specs.Round.{Round, actors as actors_of, is_over};
 ghost use Rattle.step_driver.specs.declared.seats.Seats.{Seats as Row};
 ghost use Rattle.step_driver.specs.Work.{work_left};
-ghost use Rattle.step_driver.specs.Rounds.{ShowsRound, HasRound, AreActors, GoesOn, HasPlayedTo, HasPlayedCycles, IsBehind, HasEnded, HasStopped};
+ghost use Rattle.step_driver.specs.Rounds.{ShowsRound, HasRound, AreActors, GoesOn, HasPlayedTo, HasPlayedBehind, IsBehind, HasEnded, HasStopped};
 
 use crate::seats::Seats;
 use crate::turn::take_turn;
@@ -92,7 +92,7 @@ fn play_cycles(
 ) -> Result<(), Memory>
     requires { GoesOn dictionary.now core.old seats.old }
     ensures turns { OnOk result ((schedule : List ℕ) (r : Round) (k : ℕ) → ShowsRound dictionary.now core.old seats.old r → r.turns ≡ length schedule + k * actors_of r
-        → HasPlayedCycles dictionary.now core.new seats.new schedule r) }
+        → HasPlayedBehind dictionary.now core.new seats.new schedule r) }
     ensures less { OnOk result (work_left core.new seats.new < work_left core.old seats.old) }
     ensures err { OnErr result ((r : Round) → ShowsRound dictionary.now core.old seats.old r → HasStopped core.new r.core) }
 {

@@ -68,7 +68,6 @@ fn pick(alloc: Global, core: &Core, seats: &Seats, place: u8) -> Result<Act, Mem
 }
 
 /// Whether the session at a place rests and a look tells so: no request is at hand, or a SYNC that waits.
-/// Most turns of sessions are such.
 fn waits(core: &Core, seats: &Seats, place: u8) -> bool
     ensures { result ≡ true → (known : Known) (r : Round) → ShowsRound known core.now seats.now r → Rests ≡ act_of r (SessionAt place) }
 {

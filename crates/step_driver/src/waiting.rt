@@ -1,4 +1,4 @@
-ghost use Rattle.std.specs.Prelude.{◌≡◌, ℕ, ◌+◌, ◌*◌, ◌<◌, ◌^◌, true, false, List, length, slice_get, IfOk, OnOk, OnErr, ◌⊎◌};
+ghost use Rattle.std.specs.Prelude.{◌≡◌, ℕ, ◌+◌, ◌*◌, ◌<◌, true, false, List, length, slice_get, IfOk, OnOk, OnErr, ◌⊎◌};
 ghost use Rattle.dictionary.specs.Standing.{Known};
 ghost use Rattle.turn_rules.specs.Round.{Round, actors as actors_of, is_over};
 ghost use Rattle.turn_rules.specs.Picks.{Rests, coordinator_act};
@@ -43,8 +43,8 @@ fn awaits(seats: &Seats, place: u8) -> bool
     }
 }
 
-/// Cycles of turns until the QuerySCN is the frontier. In whole ones the sessions rest, and are not looked
-/// at; the last is cut off behind the coordinator, which published that QuerySCN.
+/// Cycles of turns, which end behind the coordinator as the QuerySCN becomes the frontier. In whole ones the
+/// sessions rest, and are not looked at.
 pub(crate) fn play_crew(
     core: &mut Core,
     seats: &Seats,
@@ -68,7 +68,7 @@ pub(crate) fn play_crew(
 }
 
 /// The turn of the coordinator, which is not looked at where it is known to rest. The answer is whether it
-/// rests now.
+/// is known to rest now: not behind an act.
 fn play_coordinator(
     core: &mut Core,
     seats: &Seats,
@@ -91,8 +91,8 @@ fn play_coordinator(
     Ok(rested)
 }
 
-/// A turn of each worker, and of the sessions, which rest. The answer is whether the coordinator, where it
-/// rested before, rests still: it sees nothing of what was done.
+/// A turn of each worker, and of the sessions, which rest. The answer is whether the coordinator is known to
+/// rest still: it was before, and sees nothing of what was done.
 fn play_workers(
     core: &mut Core,
     seats: &Seats,
@@ -116,7 +116,7 @@ fn play_workers(
     Ok(still)
 }
 
-/// Whether the coordinator sees nothing of what a worker does.
+/// Whether what a worker does is known to be nothing that the coordinator sees.
 fn is_unseen(event: &Option<CrewEvent>) -> bool
     ensures { result ≡ true → IsUnseen event.now }
 {

@@ -2,7 +2,7 @@ use Rattle.std.proofs.Common.{◌≡◌, ◌+◌, ◌*◌, [], length, ◌∙◌
 use Rattle.std.specs.Prelude.{Result, Ok, Err, OnOk, OnErr}
 use Rattle.turn_rules.specs.Round.{Round, actors}
 use Rattle.step_driver.proofs.Turned.{shows_again}
-use Rattle.step_driver.proofs.Played.{stopped_behind, cycled_on}
+use Rattle.step_driver.proofs.Played.{stopped_behind, cycle_ends, cycled_on}
 use Rattle.step_driver.proofs.round.play_cycles.Goals as goal
 
 pub play_from-requires-clause-round : goal.play_from-requires-clause-round
@@ -39,4 +39,4 @@ returns-in_ok-play_crew-clause-err c = on_err c.play_from.result (λ f r s.
 pub returns-else-all_wait-clause-turns : goal.returns-else-all_wait-clause-turns
 returns-else-all_wait-clause-turns c = on_ok c.play_from-else-all_wait.result (λ f schedule r k s e.
     let none : length schedule + k * actors r ≡ length schedule + k * actors r + 0 = omega arith in
-    (k, f schedule r k s (e ∙ none))) c.play_from-else-all_wait.ensures.turns
+    cycle_ends c.args.dictionary.now c.play_from-else-all_wait.new.core c.play_from-else-all_wait.new.seats schedule r k s.stands (f schedule r k s (e ∙ none))) c.play_from-else-all_wait.ensures.turns

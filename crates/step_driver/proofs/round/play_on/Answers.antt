@@ -20,7 +20,7 @@ pub loop-alloc-preserved : goal.loop-alloc-preserved
 loop-alloc-preserved c schedule r s b =
     let known = c.args.dictionary.now in
     let p = c.loop-alloc.invariant schedule r s b in
-    cycled known c.loop-alloc.core c.play_cycles.new.core c.loop-alloc.seats c.play_cycles.new.seats schedule r s.stands p (sym (c.loop-alloc-test.ensures known p.played.last p.played.shows))
+    cycled known c.loop-alloc.core c.play_cycles.new.core c.loop-alloc.seats c.play_cycles.new.seats schedule r p (sym (c.loop-alloc-test.ensures known p.played.last p.played.shows))
     (λ k e. c.in_ok-play_cycles.ensures.turns schedule p.played.last k p.played.shows e)
 
 pub returns-in_err-play_cycles-clause-err : goal.returns-in_err-play_cycles-clause-err
